@@ -1,0 +1,20 @@
+-- The laws of the definitions.
+pub mod Basics
+pub mod Tests
+pub mod Counting
+pub mod WakeSet
+pub mod Keeping
+pub mod Holding
+pub mod Suspending
+pub mod Resuming
+pub mod Setting
+pub mod Values
+pub mod Steps
+pub mod Records
+pub mod Setters
+pub mod SoundTest
+pub mod Running
+pub mod Loading
+pub mod Pieces
+pub mod Questions
+pub mod Day

@@ -1,0 +1,71 @@
+-- What holds of each case of a record holds of every record. Assumes nothing.
+use mathlib.Core.Path.{_≡_}
+use mathlib.Core.Bool.{Bool, true, false, not}
+use Prim.Native.Nat.{ℕ, suc, _<_, _≤_}
+use native.Mathlib.Omega.{arith}
+use lib.Dec.{leb, eqb}
+use borrow.Author.Tests.{leb-true, leb-false, eqb-true, eqb-false, not-false}
+use Rattle.model.specs.Limits.{EINPROGRESS, minus}
+use Rattle.model.specs.State.{State}
+use Rattle.model.specs.Records.{Rec, Done, finished, refused, allowed}
+use Rattle.model.specs.Requests.{enable, disable, get, getWake, put, putIdle, idle, suspend, wake, setActive, setSuspended, ignoreChildren}
+use Rattle.model.specs.Steps.{result, request, recordStep}
+use Rattle.model.proofs.Basics.{by-if, and-parts}
+use Rattle.model.proofs.Tests.{tests}
+
+-- ---- kinds 1 to 12
+pub record Kinds (P : ℕ → Done → Type 0) (s : State) (p v : ℕ) : Type 0 where
+  pub enables : P 1 (enable s p)
+  pub disables : P 2 (disable s p)
+  pub gets : P 3 (get s p)
+  pub getWakes : P 4 (getWake s p)
+  pub puts : P 5 (put s p)
+  pub putIdles : P 6 (putIdle s p)
+  pub idles : P 7 (idle s p)
+  pub suspends : P 8 (suspend s p)
+  pub wakes : P 9 (wake s p)
+  pub setActives : P 10 (setActive s p)
+  pub setSuspendeds : P 11 (setSuspended s p)
+  pub ignores : P 12 (ignoreChildren s p v)
+
+past : (k kind : ℕ) → k ≤ kind → eqb kind k ≡ false → suc k ≤ kind
+past k kind h e = omega (arith, eqb-false kind k e)
+
+module _ (P : ℕ → Done → Type 0) {s : State} {p v : ℕ} (c : Kinds P s p v) where
+  pub by-kind : (kind : ℕ) → 1 ≤ kind → kind < 13 → P kind (request s kind p v)
+  unfolding request
+  by-kind kind l1 high =
+      by-if (P kind) _ _ _ (λ e. rw (eqb-true kind 1 e) (c .enables))
+      (λ e. let l2 = past 1 kind l1 e in by-if (P kind) _ _ _ (λ e. rw (eqb-true kind 2 e) (c .disables))
+      (λ e. let l3 = past 2 kind l2 e in by-if (P kind) _ _ _ (λ e. rw (eqb-true kind 3 e) (c .gets))
+      (λ e. let l4 = past 3 kind l3 e in by-if (P kind) _ _ _ (λ e. rw (eqb-true kind 4 e) (c .getWakes))
+      (λ e. let l5 = past 4 kind l4 e in by-if (P kind) _ _ _ (λ e. rw (eqb-true kind 5 e) (c .puts))
+      (λ e. let l6 = past 5 kind l5 e in by-if (P kind) _ _ _ (λ e. rw (eqb-true kind 6 e) (c .putIdles))
+      (λ e. let l7 = past 6 kind l6 e in by-if (P kind) _ _ _ (λ e. rw (eqb-true kind 7 e) (c .idles))
+      (λ e. let l8 = past 7 kind l7 e in by-if (P kind) _ _ _ (λ e. rw (eqb-true kind 8 e) (c .suspends))
+      (λ e. let l9 = past 8 kind l8 e in by-if (P kind) _ _ _ (λ e. rw (eqb-true kind 9 e) (c .wakes))
+      (λ e. let l10 = past 9 kind l9 e in by-if (P kind) _ _ _ (λ e. rw (eqb-true kind 10 e) (c .setActives))
+      (λ e. let l11 = past 10 kind l10 e in by-if (P kind) _ _ _ (λ e. rw (eqb-true kind 11 e) (c .setSuspendeds))
+      (λ e. let z : kind ≡ 12 = omega (arith, past 11 kind l11 e) in rw z (c .ignores))))))))))))
+
+-- ---- every record
+pub record Cases (P : Done → Type 0) (s : State) (r : Rec) : Type 0 where
+  pub refuses : (number : ℕ) → P (refused s (r .device) number)
+  pub results : r .kind ≡ 13 → allowed 13 (r .value) ≡ true → (s .callback .kind ≡ 0 → ⊥) → r .device ≡ s .callback .asked → P (result s (r .device) (r .value))
+  pub busy : P (finished s (r .device) (minus EINPROGRESS))
+  pub requests : 1 ≤ r .kind → r .kind < 13 → r .device < s .wiring .n → allowed (r .kind) (r .value) ≡ true → s .callback .kind ≡ 0 → P (request s (r .kind) (r .device) (r .value))
+
+pub by-record : (P : Done → Type 0) {s : State} {r : Rec} → Cases P s r → P (recordStep s r)
+unfolding recordStep
+by-record P {s} {r} c =
+    by-if P _ _ _ (λ e. c .refuses 11)
+    (λ k. by-if P _ _ _ (λ e. c .refuses 12)
+    (λ l. by-if P _ _ _ (λ e. c .refuses 13)
+    (λ a. by-if P _ _ _ (λ e. c .refuses 14)
+    (λ o. by-if P _ _ _ (λ e. c .refuses 15)
+    (λ q. by-if P _ _ _
+    (λ j. let i = eqb-true (r .kind) 13 j in c .results i (rw i at (not-false (allowed (r .kind) (r .value)) a)) ((simp tests at o) i) ((simp tests at q) i))
+    (λ j. by-if P _ _ _ (λ e. c .busy)
+    (λ o.
+    let z = and-parts _ _ (not-false _ k) in
+    c .requests (leb-true 1 (r .kind) (z .0)) (omega (arith, leb-true (r .kind) 13 (z .1), eqb-false (r .kind) 13 j)) (leb-false (s .wiring .n) (r .device) l) (not-false _ a) (eqb-true (s .callback .kind) 0 (not-false _ o)))))))))

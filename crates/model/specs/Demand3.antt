@@ -1,0 +1,73 @@
+-- "Demand 3 in exact words": one claim about a whole list of pieces, at the level of definitions. Assumes nothing.
+use mathlib.Core.Path.{_≡_}
+use mathlib.Core.Bool.{Bool, true, false, not}
+use mathlib.Core.List.{List, [], _∷_, _++_, map}
+use Prim.Native.Nat.{ℕ, _<_, _+_, _*_, _%_}
+use lib.ListN.{length, take}
+use lib.Dec.{eqb}
+use Rattle.model.specs.Limits.{EOVERFLOW, EINPROGRESS, minus}
+use Rattle.model.specs.Tests.{if_then_else_, _and_, _or_, bit}
+use Rattle.model.specs.State.{State, usage, linkCount, loadOf}
+use Rattle.model.specs.Records.{Reply}
+use Rattle.model.specs.Steps.{Exchange, run, repliesIn}
+use Rattle.model.specs.Sound.{Supply}
+use Rattle.model.specs.Feed.{Piece, Fed, pieceAnswer, feedOf}
+
+-- ---- the list of pieces, fed
+-- each piece gets the bench that the one before it handed back
+unfoldable pub feedAll : State → List Piece → List Fed
+feedAll s [] = []
+feedAll s (p ∷ ps) = feedOf s p ∷ feedAll (feedOf s p .state) ps
+
+-- the bench that the last piece handed back
+unfoldable pub handedBack : State → List Fed → State
+handedBack s [] = s
+handedBack s (f ∷ fs) = handedBack (f .state) fs
+
+-- the joined replies: the reply bytes of the pieces taken, in order
+unfoldable pub joined : List Fed → List ℕ
+joined [] = []
+joined (f ∷ fs) = take (4 * f .replies) (f .buffer) ++ joined fs
+
+-- ---- the same list by lengths alone
+-- the bytes carried after a piece, c before it
+unfoldable pub carriedAfter : ℕ → Piece → ℕ
+carriedAfter c p = if eqb (pieceAnswer c p) 0 then (c + length (p .bytes)) % 4 else c
+
+-- the pieces refused are those over 4,096 bytes or without room
+unfoldable pub refusals : ℕ → List Piece → List ℕ
+refusals c [] = []
+refusals c (p ∷ ps) = pieceAnswer c p ∷ refusals (carriedAfter c p) ps
+
+-- the joined bytes of the pieces taken
+unfoldable pub takenBytes : ℕ → List Piece → List ℕ
+takenBytes c [] = []
+takenBytes c (p ∷ ps) = (if eqb (pieceAnswer c p) 0 then p .bytes else []) ++ takenBytes (carriedAfter c p) ps
+
+-- ---- "counted"
+abbrev pub isGet : ℕ → Bool
+isGet kind = eqb kind 3 or eqb kind 4
+
+abbrev pub isPut : ℕ → Bool
+isPut kind = eqb kind 5 or eqb kind 6
+
+-- not refused, and finished neither with -75 nor with -115; a reply that asks for a callback has code 0
+unfoldable pub effective : Reply → Bool
+effective r = not (eqb (r .kind) 4) and not (eqb (r .code) (minus EOVERFLOW)) and not (eqb (r .code) (minus EINPROGRESS))
+
+-- how many records of the kinds given, for device q, are counted
+unfoldable pub counted : (ℕ → Bool) → ℕ → List Exchange → ℕ
+counted kinds q [] = 0
+counted kinds q (e ∷ es) = bit (eqb (e .asked .device) q and kinds (e .asked .kind) and effective (e .reply)) + counted kinds q es
+
+-- ---- the claim for a list of pieces fed from state s, nothing carried: the plain keeper is fed the joined bytes of the pieces taken
+pub record Agrees (s : State) (ps : List Piece) : Type 0 where
+  pub refused : map (λ (f : Fed). f .number) (feedAll s ps) ≡ refusals 0 ps
+  pub replies : joined (feedAll s ps) ≡ repliesIn (run s (takenBytes 0 ps) .log)
+  pub state : handedBack s (feedAll s ps) ≡ run s (takenBytes 0 ps) .state
+  pub supply : let z = handedBack s (feedAll s ps) in Supply (z .wiring) (z .devices .status)
+  pub uses : let z = handedBack s (feedAll s ps) in let log = run s (takenBytes 0 ps) .log in (q : ℕ) → q < z .wiring .n → usage z q + counted isPut q log ≡ counted isGet q log + linkCount (z .wiring) (z .devices .status) q
+
+-- demand 3: from the bench of a table just loaded, at the start (k = 0) and after each piece
+abbrev pub Demand3 : List ℕ → List Piece → Type 0
+Demand3 table ps = loadOf table .answer .number ≡ 0 → (k : ℕ) → Agrees (loadOf table .state) (take k ps)

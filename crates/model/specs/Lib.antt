@@ -1,0 +1,15 @@
+-- Document 01 as definitions, in its order.
+pub mod Limits
+pub mod Tests
+pub mod Table
+pub mod State
+pub mod WakeSet
+pub mod Records
+pub mod Requests
+pub mod Steps
+pub mod Sound
+pub mod SoundTest
+pub mod Feed
+pub mod Questions
+pub mod Demand3
+pub mod Day

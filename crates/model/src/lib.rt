@@ -1,0 +1,1 @@
+// The meaning of the keeper: definitions in specs/, their laws in proofs/. There is no code here.

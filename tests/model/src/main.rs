@@ -1,0 +1,116 @@
+//! Reads the cases that the second implementation writes, and writes them as claims about the definitions of `crates/model/specs`,
+//! each to be proved by computation. A case that the definitions answer otherwise is refused by its line number.
+
+use std::fmt::Write as _;
+use std::io::{self, BufRead, Write};
+
+/// The claims' imports and helpers: each definition that has to compute is named twice, to be brought in and to be unfolded.
+const USES: &[(&str, &[&str])] = &[
+    ("Limits", &["DEVICES", "LINKS", "ROWS"]),
+    ("Tests", &["if_then_else_", "_and_", "_or_", "_implies_", "any", "all", "first", "count", "tally", "column"]),
+    ("Table", &["markGood", "versionGood", "limitsGood", "lengthGood", "parentGood", "endsGood", "before", "deviceGood", "ascends", "linkGood", "badDevice", "badLink", "tableAnswer", "padded", "wiringIn"]),
+    ("State", &["isChild", "isLive", "childCount", "linkCount", "childrenOf", "linkedOf", "atRest", "loaded", "emptyState", "loadOf"]),
+    ("WakeSet", &["marksChild", "marksConsumer", "belongs", "sweep", "wakeMarks", "inWake", "lowest"]),
+    ("Records", &["bounds", "allowed"]),
+    ("Requests", &["enable", "disable", "get", "put", "suspendTest", "askSuspend", "idle", "suspend", "barred", "othersBarred", "askResume", "wake", "getWake", "putIdle", "running", "parentDown", "supplierDown", "setActive", "needed", "setSuspended", "ignoreChildren"]),
+    ("Steps", &["idleResult", "suspendResult", "goOn", "resumeResult", "result", "request", "recordStep", "byteStep", "run", "repliesIn"]),
+    ("SoundTest", &["columnTest", "tableTest", "sameTest", "parentSupplies", "linkSupplies", "supplyTest", "keptTest", "carriedTest", "steadyTest", "allSteady", "othersSteady", "membersClear", "noneTest", "suspendOpenTest", "resumeOpenTest", "idleOpenTest", "callbackTest", "soundTest"]),
+];
+
+/// How many words a state has.
+const STATE_WORDS: usize = 18;
+
+fn list(numbers: &[u64]) -> String {
+    let mut text = String::from("(");
+    for number in numbers {
+        write!(text, "{number} ∷ ").expect("a string takes it");
+    }
+    text + "[])"
+}
+
+fn bytes(hex: &str) -> Vec<u64> {
+    if hex == "-" {
+        return Vec::new();
+    }
+    (0..hex.len()).step_by(2).map(|at| u64::from_str_radix(&hex[at..at + 2], 16).expect("hex")).collect()
+}
+
+/// The value of the word `name=value`.
+fn field<'a>(words: &[&'a str], name: &str) -> &'a str {
+    words.iter().find_map(|word| word.strip_prefix(name)?.strip_prefix('=')).expect("a state has every field")
+}
+
+fn numbers(text: &str) -> Vec<u64> {
+    text.split(',').map(|number| number.parse().expect("a number")).collect()
+}
+
+/// A state as a call of the helper `bench`.
+fn state(words: &[&str]) -> String {
+    let columns = ["parent", "ignore", "status", "holds", "depth", "error", "children", "linked", "consumer", "supplier", "flags"];
+    let mut text = format!("(bench {} {}", field(words, "n"), field(words, "m"));
+    for column in columns {
+        write!(text, " {}", list(&numbers(field(words, column)))).expect("a string takes it");
+    }
+    let scalars = [field(words, "callback"), field(words, "asked"), field(words, "target")].join(" ");
+    format!("{text} {scalars} {} {})", list(&numbers(field(words, "carried"))), field(words, "count"))
+}
+
+/// What a case says, in the words of the definitions.
+fn claim(line: &str) -> String {
+    let words: Vec<&str> = line.split(' ').collect();
+    let after = |start: &str, log: &str, replies: &str, end: &[&str]| {
+        format!("outcome (run {start} {}) ≡ ({}, {})", list(&bytes(log)), list(&bytes(replies)), state(end))
+    };
+    match words[0] {
+        "load" => {
+            let table = list(&bytes(words[1]));
+            format!("loadOf {table} .answer ≡ record {{ number = {}; index = {} }}", words[2], words[3])
+        }
+        "run" => after(&format!("(loadOf {} .state)", list(&bytes(words[1]))), words[2], words[3], &words[4..]),
+        "from" => after(&state(&words[1..=STATE_WORDS]), words[STATE_WORDS + 1], words[STATE_WORDS + 2], &words[STATE_WORDS + 3..]),
+        "sound" => {
+            let verdict = if words[STATE_WORDS + 1] == "1" { "true" } else { "false" };
+            format!("soundTest {} ≡ {verdict}", state(&words[1..=STATE_WORDS]))
+        }
+        other => panic!("no such case: {other}"),
+    }
+}
+
+fn header() -> String {
+    let mut text = String::from(concat!(
+        "-- Cases of the second implementation, as claims about the definitions. Assumes nothing.\n",
+        "use mathlib.Core.Path.{_≡_, refl}\n",
+        "use mathlib.Core.Bool.{true, false}\n",
+        "use mathlib.Core.List.{List, [], _∷_}\n",
+        "use Prim.Native.Nat.{ℕ, zero, suc}\n",
+        "use Rattle.model.specs.State.{State}\n",
+        "use Rattle.model.specs.Steps.{Run}\n",
+    ));
+    for (module, names) in USES {
+        writeln!(text, "use Rattle.model.specs.{module}.{{{}}}", names.join(", ")).expect("a string takes it");
+    }
+    text + concat!(
+        "\npad : ℕ → List ℕ → List ℕ\npad zero l = []\npad (suc n) [] = 0 ∷ pad n []\npad (suc n) (a ∷ l) = a ∷ pad n l\n",
+        "\nbench : ℕ → ℕ → List ℕ → List ℕ → List ℕ → List ℕ → List ℕ → List ℕ → List ℕ → List ℕ → List ℕ → List ℕ → List ℕ → ℕ → ℕ → ℕ → List ℕ → ℕ → State\n",
+        "bench n m pa ig st ho de er ch li co su fl k a t b u =\n",
+        "    record {\n",
+        "      wiring = record { n = n; m = m; parent = pad ROWS pa; ignore = pad ROWS ig; consumer = pad LINKS co; supplier = pad LINKS su; flags = pad LINKS fl };\n",
+        "      devices = record { status = pad ROWS st; holds = pad ROWS ho; depth = pad ROWS de; error = pad ROWS er; children = pad ROWS ch; linked = pad ROWS li };\n",
+        "      callback = record { kind = k; asked = a; target = t };\n",
+        "      carry = record { bytes = b; used = u };\n",
+        "    }\n",
+        "\noutcome : Run → List ℕ × State\noutcome r = (repliesIn (r .log), r .state)\n",
+    )
+}
+
+fn main() -> io::Result<()> {
+    let unfolding: Vec<&str> = USES.iter().flat_map(|(_, names)| names.iter().copied()).collect();
+    let unfolding = format!("unfolding pad bench outcome {}", unfolding.join(" "));
+    let mut out = io::BufWriter::new(io::stdout().lock());
+    out.write_all(header().as_bytes())?;
+    for (at, line) in io::stdin().lock().lines().enumerate() {
+        let at = at + 1;
+        write!(out, "\nline-{at} : {}\n{unfolding}\nline-{at} = refl\n", claim(&line?))?;
+    }
+    out.flush()
+}

@@ -1,0 +1,103 @@
+//! The lines: load, run, from and sound.
+
+use super::damage::{changed, damaged};
+use super::hosts::{any_host, Host, Session};
+use super::random::Random;
+use super::tables;
+use super::tally::Tally;
+use super::text::{hex, state};
+use crate::bench::*;
+use crate::table::{load, Refusal};
+
+/// One random case, complete by itself.
+pub fn line(random: &mut Random, tally: &mut Tally) -> String {
+    match random.below(100) {
+        0..=29 => load_line(random, tally),
+        30..=64 => run_line(random, tally),
+        65..=84 => from_line(random, tally),
+        _ => sound_line(random, tally),
+    }
+}
+
+fn load_line(random: &mut Random, tally: &mut Tally) -> String {
+    let table = tables::any(random);
+    let taken = Refusal {
+        number: 0,
+        index: 0,
+    };
+    let answer = load(&table).err().unwrap_or(taken);
+    tally.add("0 lines", "load".to_string());
+    tally.add("6 load", answer.number.to_string());
+    format!("load {} {} {}", hex(&table), answer.number, answer.index)
+}
+
+/// A good small table and its bench.
+fn fresh(random: &mut Random, most: u8) -> (Vec<u8>, Bench) {
+    let table = tables::small(random, most);
+    let bench = load(&table).expect("the table is good");
+    (table, bench)
+}
+
+/// Plays a whole log in one session.
+fn play(random: &mut Random, session: &mut Session, records: u64) {
+    let host = any_host(random);
+    if random.percent(80) {
+        session.enable_all(random);
+    }
+    session.play(random, host, records);
+    session.leave_rest(random);
+}
+
+fn run_line(random: &mut Random, tally: &mut Tally) -> String {
+    tally.add("0 lines", "run".to_string());
+    let (table, bench) = fresh(random, 7);
+    let mut session = Session::new(bench, tally);
+    let records = random.from_to(20, 53);
+    play(random, &mut session, records);
+    let (log, replies) = (hex(&session.log), hex(&session.replies));
+    format!(
+        "run {} {log} {replies} {}",
+        hex(&table),
+        state(&session.bench)
+    )
+}
+
+/// A bench that a log of no concern has led to.
+fn reached(random: &mut Random) -> Bench {
+    let (_, bench) = fresh(random, 9);
+    let mut unheard = Tally::default();
+    let mut session = Session::new(bench, &mut unheard);
+    let records = random.from_to(1, 30);
+    play(random, &mut session, records);
+    session.bench
+}
+
+fn from_line(random: &mut Random, tally: &mut Tally) -> String {
+    tally.add("0 lines", "from".to_string());
+    let before = reached(random);
+    let start = changed(random, &before);
+    let mut session = Session::new(start.clone(), tally);
+    let records = random.from_to(20, 59);
+    let host = random.one_of(&[Host::Steady, Host::Steady, Host::Lively, Host::Rude]);
+    session.play(random, host, records);
+    session.leave_rest(random);
+    let (log, replies) = (hex(&session.log), hex(&session.replies));
+    format!(
+        "from {} {log} {replies} {}",
+        state(&start),
+        state(&session.bench)
+    )
+}
+
+fn sound_line(random: &mut Random, tally: &mut Tally) -> String {
+    let before = reached(random);
+    let bench = match random.below(10) {
+        0 => before,
+        1 => changed(random, &before),
+        _ => damaged(random, &before),
+    };
+    let answer = u8::from(bench.sound());
+    tally.add("0 lines", "sound".to_string());
+    tally.add("7 sound", answer.to_string());
+    format!("sound {} {answer}", state(&bench))
+}

@@ -1,0 +1,22 @@
+//! The bench keeper of document 01 in ordinary Rust, for comparison.
+//!
+//! A [`Bench`] is loaded from a part table and fed pieces of a log. The names
+//! are the kernel's: a part is a *device*, the use count is the *usage count*,
+//! the error is the *runtime error*.
+
+mod bench;
+mod feed;
+pub mod generate;
+mod question;
+mod record;
+mod sound;
+mod table;
+mod wake;
+
+#[cfg(test)]
+mod tests;
+
+pub use bench::*;
+pub use feed::MAX_PIECE;
+pub use record::{FINISHED, REFUSED};
+pub use table::{load, Refusal};

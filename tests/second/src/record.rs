@@ -1,0 +1,346 @@
+//! Records and their replies.
+
+use crate::bench::*;
+
+/// Reply kind 0: finished with a code.
+pub const FINISHED: u8 = 0;
+/// Reply kind 4: refused.
+pub const REFUSED: u8 = 4;
+/// Record kind 13: a callback's result.
+const RESULT: u8 = 13;
+
+/// Document 01: the least and greatest value allowed, by record kind.
+/// Kind 0 doesn't exist; its row is never looked at.
+const BOUNDS: [(i16, i16); 14] = {
+    let mut bounds = [(0, 0); 14];
+    bounds[12] = (0, 1);
+    bounds[13] = (-4_095, 0);
+    bounds
+};
+
+/// Document 01: a finished reply.
+fn finished(device: usize, code: i16) -> [u8; 4] {
+    let [low, high] = code.to_le_bytes();
+    [FINISHED, device as u8, low, high]
+}
+
+impl Bench {
+    /// Document 01: one record and its one reply. The bench must be sound.
+    pub fn record(&mut self, record: [u8; 4]) -> [u8; 4] {
+        let [kind, part, low, high] = record;
+        let value = i16::from_le_bytes([low, high]);
+        if let Some(number) = self.refusal(kind, part, value) {
+            return [REFUSED, part, number, 0];
+        }
+        let device = usize::from(part);
+        if kind != RESULT && self.callback != NO_CALLBACK {
+            return finished(device, -EINPROGRESS);
+        }
+        self.request(kind, device, value)
+    }
+
+    /// Document 01: refusals 11 to 15, in numeric order.
+    fn refusal(&self, kind: u8, part: u8, value: i16) -> Option<u8> {
+        if !(1..=RESULT).contains(&kind) {
+            return Some(11);
+        }
+        if part >= self.n {
+            return Some(12);
+        }
+        let (least, greatest) = BOUNDS[usize::from(kind)];
+        if value < least || value > greatest {
+            return Some(13);
+        }
+        if kind == RESULT && self.callback == NO_CALLBACK {
+            return Some(14);
+        }
+        (kind == RESULT && part != self.asked).then_some(15)
+    }
+
+    /// A well-formed record whose turn has come.
+    fn request(&mut self, kind: u8, device: usize, value: i16) -> [u8; 4] {
+        match kind {
+            1 => self.enable(device),
+            2 => self.disable(device),
+            3 => self.get(device),
+            4 => self.get_and_wake(device),
+            5 => self.put(device),
+            6 => self.put_and_idle(device),
+            7 => self.idle(device),
+            8 => self.suspend(device),
+            9 => self.wake(device),
+            10 => self.set_active(device),
+            11 => self.set_suspended(device),
+            12 => self.ignore_children(device, value),
+            _ => self.result(value),
+        }
+    }
+
+    /// Opens a callback and asks the host to run it.
+    fn ask(&mut self, callback: u8, asked: usize, target: usize) -> [u8; 4] {
+        self.callback = callback;
+        self.asked = asked as u8;
+        self.target = target as u8;
+        [callback, self.asked, 0, 0]
+    }
+
+    /// Closes the open callback.
+    fn close(&mut self) {
+        self.callback = NO_CALLBACK;
+        self.asked = 0;
+        self.target = 0;
+    }
+
+    /// Kind 1, enable.
+    fn enable(&mut self, device: usize) -> [u8; 4] {
+        match self.depth[device].checked_sub(1) {
+            Some(depth) => {
+                self.depth[device] = depth;
+                finished(device, 0)
+            }
+            None => finished(device, -EOVERFLOW),
+        }
+    }
+
+    /// Kind 2, disable.
+    fn disable(&mut self, device: usize) -> [u8; 4] {
+        match self.depth[device].checked_add(1) {
+            Some(depth) => {
+                self.depth[device] = depth;
+                finished(device, 0)
+            }
+            None => finished(device, -EOVERFLOW),
+        }
+    }
+
+    /// One user hold more, if there is room.
+    fn raise_holds(&mut self, device: usize) -> bool {
+        let room = self.holds[device] < MAX_HOLDS;
+        if room {
+            self.holds[device] += 1;
+        }
+        room
+    }
+
+    /// One user hold less, if there is one.
+    fn lower_holds(&mut self, device: usize) -> bool {
+        let held = self.holds[device] > 0;
+        if held {
+            self.holds[device] -= 1;
+        }
+        held
+    }
+
+    /// Kind 3, get.
+    fn get(&mut self, device: usize) -> [u8; 4] {
+        let code = if self.raise_holds(device) {
+            0
+        } else {
+            -EOVERFLOW
+        };
+        finished(device, code)
+    }
+
+    /// Kind 4, get and wake. The hold stays whatever follows.
+    fn get_and_wake(&mut self, device: usize) -> [u8; 4] {
+        if self.raise_holds(device) {
+            self.wake(device)
+        } else {
+            finished(device, -EOVERFLOW)
+        }
+    }
+
+    /// Kind 5, put.
+    fn put(&mut self, device: usize) -> [u8; 4] {
+        let code = if self.lower_holds(device) {
+            0
+        } else {
+            -EOVERFLOW
+        };
+        finished(device, code)
+    }
+
+    /// Kind 6, put and idle, whatever the usage count.
+    fn put_and_idle(&mut self, device: usize) -> [u8; 4] {
+        if self.lower_holds(device) {
+            self.idle(device)
+        } else {
+            finished(device, -EOVERFLOW)
+        }
+    }
+
+    /// Document 01: the suspend test. The code of the first fault, if any.
+    pub(crate) fn suspend_test(&self, device: usize) -> Option<i16> {
+        if self.error[device] != 0 {
+            Some(-EINVAL)
+        } else if self.depth[device] > 0 || self.usage(device) > 0 {
+            Some(-EAGAIN)
+        } else if self.children[device] > 0 && self.ignore[device] == 0 {
+            Some(-EBUSY)
+        } else {
+            None
+        }
+    }
+
+    /// Kind 7, idle.
+    fn idle(&mut self, device: usize) -> [u8; 4] {
+        if let Some(code) = self.suspend_test(device) {
+            return finished(device, code);
+        }
+        if self.status[device] != ACTIVE {
+            return finished(device, -EAGAIN);
+        }
+        self.ask(IDLE_CALLBACK, device, device)
+    }
+
+    /// Kind 8, suspend.
+    fn suspend(&mut self, device: usize) -> [u8; 4] {
+        if let Some(code) = self.suspend_test(device) {
+            return finished(device, code);
+        }
+        if self.status[device] == SUSPENDED {
+            return finished(device, 1);
+        }
+        self.start_suspend(device)
+    }
+
+    /// The device turns suspending and its suspend callback is asked for.
+    fn start_suspend(&mut self, device: usize) -> [u8; 4] {
+        self.set_status(device, SUSPENDING);
+        self.ask(SUSPEND_CALLBACK, device, device)
+    }
+
+    /// Has the device an error, or is it disabled?
+    pub(crate) fn unfit(&self, device: usize) -> bool {
+        self.error[device] != 0 || self.depth[device] > 0
+    }
+
+    /// Has any member of the wake set an error or a disable depth above 0?
+    pub(crate) fn wake_blocked(&self, target: usize) -> bool {
+        let set = self.wake_set(target);
+        (0..DEVICE_ROWS).any(|member| set[member] && self.unfit(member))
+    }
+
+    /// Kind 9, wake.
+    fn wake(&mut self, device: usize) -> [u8; 4] {
+        if self.error[device] != 0 {
+            return finished(device, -EINVAL);
+        }
+        if self.depth[device] > 0 {
+            return finished(device, -EAGAIN);
+        }
+        if self.status[device] == ACTIVE {
+            return finished(device, 1);
+        }
+        if self.wake_blocked(device) {
+            return finished(device, -EBUSY);
+        }
+        self.wake_next(device)
+    }
+
+    /// The lowest member of the target's wake set turns resuming and is asked;
+    /// with none left the wake is finished.
+    fn wake_next(&mut self, target: usize) -> [u8; 4] {
+        match self.lowest_to_wake(target) {
+            Some(member) => {
+                self.set_status(member, RESUMING);
+                self.ask(RESUME_CALLBACK, member, target)
+            }
+            None => {
+                self.close();
+                finished(target, 0)
+            }
+        }
+    }
+
+    /// Kinds 10 and 11 need a disabled device or one with an error.
+    fn status_locked(&self, device: usize) -> bool {
+        !self.unfit(device)
+    }
+
+    /// Kind 10, set active.
+    fn set_active(&mut self, device: usize) -> [u8; 4] {
+        if self.status_locked(device) {
+            return finished(device, -EAGAIN);
+        }
+        let not_active = |above| self.status[above] != ACTIVE;
+        if self.counting_parent(device).is_some_and(not_active)
+            || self.suppliers(device).any(not_active)
+        {
+            return finished(device, -EBUSY);
+        }
+        self.force(device, ACTIVE)
+    }
+
+    /// Kind 11, set suspended.
+    fn set_suspended(&mut self, device: usize) -> [u8; 4] {
+        if self.status_locked(device) {
+            return finished(device, -EAGAIN);
+        }
+        let counted_children = self.children[device] > 0 && self.ignore[device] == 0;
+        if counted_children || self.linked[device] > 0 {
+            return finished(device, -EBUSY);
+        }
+        self.force(device, SUSPENDED)
+    }
+
+    /// The status is set without a callback, and the error is cleared.
+    fn force(&mut self, device: usize, status: u8) -> [u8; 4] {
+        self.set_status(device, status);
+        self.error[device] = 0;
+        finished(device, 0)
+    }
+
+    /// Kind 12, ignore children.
+    fn ignore_children(&mut self, device: usize, value: i16) -> [u8; 4] {
+        if value == 0 && self.status[device] != ACTIVE && self.children[device] > 0 {
+            return finished(device, -EBUSY);
+        }
+        self.ignore[device] = u8::from(value != 0);
+        finished(device, 0)
+    }
+
+    /// Kind 13, result, for the device asked.
+    fn result(&mut self, value: i16) -> [u8; 4] {
+        match self.callback {
+            IDLE_CALLBACK => self.idle_result(value),
+            SUSPEND_CALLBACK => self.suspend_result(value),
+            _ => self.resume_result(value),
+        }
+    }
+
+    /// The idle callback's result: 0 goes on to suspend.
+    fn idle_result(&mut self, value: i16) -> [u8; 4] {
+        let device = usize::from(self.asked);
+        if value == 0 {
+            return self.start_suspend(device);
+        }
+        self.close();
+        finished(device, value)
+    }
+
+    /// The suspend callback's result. -11 and -16 are no lasting errors.
+    fn suspend_result(&mut self, value: i16) -> [u8; 4] {
+        let device = usize::from(self.asked);
+        let status = if value == 0 { SUSPENDED } else { ACTIVE };
+        self.set_status(device, status);
+        if value != -EAGAIN && value != -EBUSY {
+            self.error[device] = value.unsigned_abs();
+        }
+        self.close();
+        finished(device, value)
+    }
+
+    /// The resume callback's result: on to the next member, or an error.
+    fn resume_result(&mut self, value: i16) -> [u8; 4] {
+        let (asked, target) = (usize::from(self.asked), usize::from(self.target));
+        if value == 0 {
+            self.set_status(asked, ACTIVE);
+            return self.wake_next(target);
+        }
+        self.set_status(asked, SUSPENDED);
+        self.error[asked] = value.unsigned_abs();
+        self.close();
+        finished(target, if asked == target { value } else { -EBUSY })
+    }
+}

@@ -1,0 +1,449 @@
+//! Tests of the keeper against document 01's own numbers.
+
+use crate::generate::hosts::{any_host, Session};
+use crate::generate::lines::line;
+use crate::generate::random::Random;
+use crate::generate::tables;
+use crate::generate::tally::Tally;
+use crate::*;
+
+/// The table of the worked day.
+const TABLE: [u8; 16] = [
+    0x54, 0x57, 0x42, 0x01, 0x00, 0x03, 0x01, 0xFF, 0x00, 0xFF, 0x00, 0x00, 0x00, 0x02, 0x01, 0x01,
+];
+
+/// The records of the worked day and their replies, P1 to P12.
+const DAY: [([u8; 4], [u8; 4]); 12] = [
+    ([0x01, 0x00, 0x00, 0x00], [0x00, 0x00, 0x00, 0x00]),
+    ([0x01, 0x01, 0x00, 0x00], [0x00, 0x01, 0x00, 0x00]),
+    ([0x01, 0x02, 0x00, 0x00], [0x00, 0x02, 0x00, 0x00]),
+    ([0x04, 0x02, 0x00, 0x00], [0x02, 0x00, 0x00, 0x00]),
+    ([0x0D, 0x00, 0x00, 0x00], [0x02, 0x01, 0x00, 0x00]),
+    ([0x0D, 0x01, 0x00, 0x00], [0x02, 0x02, 0x00, 0x00]),
+    ([0x0D, 0x02, 0x00, 0x00], [0x00, 0x02, 0x00, 0x00]),
+    ([0x08, 0x01, 0x00, 0x00], [0x00, 0x01, 0xF5, 0xFF]),
+    ([0x08, 0x00, 0x00, 0x00], [0x00, 0x00, 0xF0, 0xFF]),
+    ([0x06, 0x02, 0x00, 0x00], [0x03, 0x02, 0x00, 0x00]),
+    ([0x0D, 0x02, 0x00, 0x00], [0x01, 0x02, 0x00, 0x00]),
+    ([0x0D, 0x02, 0xF0, 0xFF], [0x00, 0x02, 0xF0, 0xFF]),
+];
+
+fn day_log() -> Vec<u8> {
+    DAY.iter().flat_map(|(record, _)| *record).collect()
+}
+
+fn day_replies() -> Vec<u8> {
+    DAY.iter().flat_map(|(_, reply)| *reply).collect()
+}
+
+fn day_bench() -> Bench {
+    load(&TABLE).unwrap()
+}
+
+/// Sends a record that must be answered with this finished code.
+fn finishes(bench: &mut Bench, kind: u8, device: u8, value: i16, code: i16) {
+    let reply = send(bench, kind, device, value);
+    let [low, high] = code.to_le_bytes();
+    assert_eq!(reply, [FINISHED, device, low, high]);
+}
+
+fn send(bench: &mut Bench, kind: u8, device: u8, value: i16) -> [u8; 4] {
+    let [low, high] = value.to_le_bytes();
+    let reply = bench.record([kind, device, low, high]);
+    assert!(bench.sound());
+    reply
+}
+
+/// One enabled device, not yet awake.
+fn lone_bench() -> Bench {
+    let mut bench = load(b"TWB\x01\x00\x01\x00\xFF\x00").unwrap();
+    finishes(&mut bench, 1, 0, 0, 0);
+    bench
+}
+
+/// One enabled device, awake.
+fn awake_bench() -> Bench {
+    let mut bench = lone_bench();
+    assert_eq!(send(&mut bench, 9, 0, 0), [2, 0, 0, 0]);
+    finishes(&mut bench, 13, 0, 0, 0);
+    bench
+}
+
+fn refused(table: &[u8], number: u8, index: u8) {
+    assert_eq!(load(table), Err(Refusal { number, index }));
+}
+
+#[test]
+fn worked_day_by_records() {
+    let mut bench = day_bench();
+    for (record, reply) in DAY {
+        assert_eq!(bench.record(record), reply);
+        assert!(bench.sound());
+    }
+    assert_eq!(bench.status[..3], [ACTIVE; 3]);
+    assert_eq!(bench.error[..3], [0; 3]);
+    assert_eq!(bench.children[..3], [1, 0, 0]);
+    assert_eq!(bench.linked[..3], [0, 1, 0]);
+}
+
+#[test]
+fn worked_day_cut_after_one_byte() {
+    let (log, mut bench, mut replies) = (day_log(), day_bench(), [0xAA; 50]);
+    assert_eq!(bench.feed(&log[..1], &mut []), Ok(0));
+    assert_eq!((bench.count, bench.carried), (1, [1, 0, 0]));
+    assert_eq!(bench.feed(&log[1..], &mut replies), Ok(12));
+    assert_eq!(replies[..48], day_replies());
+    assert_eq!(replies[48..], [0xAA; 2]);
+}
+
+#[test]
+fn worked_day_byte_by_byte() {
+    let (mut bench, mut joined) = (day_bench(), Vec::<u8>::new());
+    for byte in day_log() {
+        let mut reply = [0; 4];
+        let taken = bench.feed(&[byte], &mut reply).unwrap();
+        joined.extend(&reply[..4 * taken]);
+    }
+    assert_eq!(joined, day_replies());
+}
+
+#[test]
+fn p13_and_p14() {
+    let mut bench = day_bench();
+    bench.holds[1] = 32_766;
+    finishes(&mut bench, 3, 1, 0, 0);
+    assert_eq!(bench.holds[1], 32_767);
+    let before = bench.clone();
+    finishes(&mut bench, 3, 1, 0, -75);
+    finishes(&mut bench, 4, 1, 0, -75);
+    assert_eq!(bench, before);
+}
+
+#[test]
+fn suspend_error_is_kept_until_set_active() {
+    let mut bench = awake_bench();
+    assert_eq!(send(&mut bench, 8, 0, 0), [1, 0, 0, 0]);
+    finishes(&mut bench, 13, 0, -5, -5);
+    assert_eq!((bench.status[0], bench.error[0]), (ACTIVE, 5));
+    finishes(&mut bench, 8, 0, 0, -22);
+    finishes(&mut bench, 10, 0, 0, 0);
+    assert_eq!((bench.status[0], bench.error[0]), (ACTIVE, 0));
+}
+
+#[test]
+fn suspend_busy_is_no_error() {
+    for value in [-11, -16] {
+        let mut bench = awake_bench();
+        send(&mut bench, 8, 0, 0);
+        finishes(&mut bench, 13, 0, value, value);
+        assert_eq!((bench.status[0], bench.error[0]), (ACTIVE, 0));
+    }
+}
+
+#[test]
+fn resume_error_is_always_kept() {
+    for value in [-11, -16, -75, -4_095] {
+        let mut bench = lone_bench();
+        send(&mut bench, 9, 0, 0);
+        finishes(&mut bench, 13, 0, value, value);
+        assert_eq!(bench.status[0], SUSPENDED);
+        assert_eq!(bench.error[0], value.unsigned_abs());
+    }
+}
+
+#[test]
+fn member_error_is_answered_for_the_target() {
+    let mut bench = day_bench();
+    for (record, _) in &DAY[..5] {
+        bench.record(*record);
+    }
+    assert_eq!(send(&mut bench, 13, 1, -5), [0, 2, 0xF0, 0xFF]);
+    assert_eq!(bench.status[..3], [ACTIVE, SUSPENDED, SUSPENDED]);
+    assert_eq!(bench.error[..3], [0, 5, 0]);
+    assert_eq!(bench.holds[2], 1);
+}
+
+#[test]
+fn get_and_wake_keeps_the_hold() {
+    let mut bench = day_bench();
+    finishes(&mut bench, 4, 2, 0, -11);
+    assert_eq!(bench.holds[2], 1);
+}
+
+#[test]
+fn set_active_twice_counts_once() {
+    let mut bench = day_bench();
+    for device in [0, 1, 2, 2] {
+        finishes(&mut bench, 10, device, 0, 0);
+    }
+    assert_eq!((bench.children[0], bench.linked[1]), (1, 1));
+}
+
+#[test]
+fn ignored_children_are_counted() {
+    let mut bench = load(b"TWB\x01\x00\x02\x00\xFF\x01\x00\x00").unwrap();
+    finishes(&mut bench, 10, 1, 0, 0);
+    assert_eq!((bench.status[0], bench.children[0]), (SUSPENDED, 1));
+    finishes(&mut bench, 12, 0, 0, -16);
+    finishes(&mut bench, 10, 0, 0, 0);
+    finishes(&mut bench, 12, 0, 0, 0);
+    finishes(&mut bench, 11, 0, 0, -16);
+}
+
+#[test]
+fn depths_and_holds_stop_at_their_ends() {
+    let mut bench = lone_bench();
+    finishes(&mut bench, 1, 0, 0, -75);
+    finishes(&mut bench, 5, 0, 0, -75);
+    finishes(&mut bench, 6, 0, 0, -75);
+    bench.depth[0] = 255;
+    finishes(&mut bench, 2, 0, 0, -75);
+    assert_eq!(bench.depth[0], 255);
+}
+
+#[test]
+fn codes_come_in_order() {
+    let mut bench = awake_bench();
+    finishes(&mut bench, 9, 0, 0, 1);
+    bench.depth[0] = 1;
+    finishes(&mut bench, 9, 0, 0, -11);
+    bench.error[0] = 1;
+    finishes(&mut bench, 9, 0, 0, -22);
+    finishes(&mut bench, 7, 0, 0, -22);
+}
+
+#[test]
+fn records_refused() {
+    let mut bench = day_bench();
+    let before = bench.clone();
+    let cases = [
+        ([0, 9, 9, 9], 11),
+        ([14, 0, 0, 0], 11),
+        ([1, 3, 9, 9], 12),
+        ([1, 2, 1, 0], 13),
+        ([12, 2, 2, 0], 13),
+        ([13, 2, 1, 0], 13),
+        ([13, 2, 0, 0xF0], 13),
+        ([13, 2, 1, 0xF0], 14),
+    ];
+    for (record, number) in cases {
+        assert_eq!(bench.record(record), [REFUSED, record[1], number, 0]);
+        assert_eq!(bench, before);
+    }
+    finishes(&mut bench, 12, 2, 1, 0);
+}
+
+#[test]
+fn while_a_callback_is_open() {
+    let mut bench = lone_bench();
+    send(&mut bench, 4, 0, 0);
+    let before = bench.clone();
+    for kind in 1..=12 {
+        finishes(&mut bench, kind, 0, 0, -115);
+        assert_eq!(send(&mut bench, kind, 1, 0), [REFUSED, 1, 12, 0]);
+    }
+    assert_eq!(bench, before);
+}
+
+#[test]
+fn result_for_another_device() {
+    let mut bench = day_bench();
+    for (record, _) in &DAY[..4] {
+        bench.record(*record);
+    }
+    assert_eq!(send(&mut bench, 13, 2, 0), [REFUSED, 2, 15, 0]);
+    assert_eq!(send(&mut bench, 13, 2, 1), [REFUSED, 2, 13, 0]);
+}
+
+#[test]
+fn wake_set_goes_round_an_ignoring_parent() {
+    let table = b"TWB\x01\x00\x03\x01\xFF\x01\x00\x00\x01\x00\x02\x00\x01";
+    let bench = load(table).unwrap();
+    assert_eq!(bench.wakes_with(1, 0), Ok(false));
+    assert_eq!(bench.wakes_with(2, 0), Ok(true));
+    assert_eq!(bench.wakes_with(2, 1), Ok(true));
+    assert_eq!(bench.parents_above(2), Ok(2));
+}
+
+#[test]
+fn a_link_without_bit_0_has_no_effect() {
+    let bench = load(b"TWB\x01\x00\x02\x01\xFF\x00\xFF\x00\x01\x00\x02").unwrap();
+    assert_eq!(bench.wakes_with(1, 0), Ok(false));
+}
+
+#[test]
+fn questions_refuse() {
+    let bench = day_bench();
+    assert_eq!(bench.status_of(2), Ok(SUSPENDED));
+    assert_eq!(bench.status_of(3), Err(24));
+    assert_eq!(bench.wakes_with(0, 3), Err(24));
+    assert_eq!(bench.wakes_with(3, 0), Err(24));
+    assert_eq!(Bench::empty().child_count(0), Err(21));
+    assert_eq!(Bench::empty().parents_above(255), Err(21));
+}
+
+#[test]
+fn usage_count_passes_16_bits() {
+    let mut bench = day_bench();
+    for device in 0..3 {
+        finishes(&mut bench, 10, device, 0, 0);
+    }
+    bench.holds[1] = 32_767;
+    assert_eq!(bench.usage_count(1), Ok(32_768));
+    assert_eq!(bench.user_holds(1), Ok(32_767));
+}
+
+#[test]
+fn pieces_refused() {
+    let (mut bench, mut replies) = (day_bench(), [0xAA; 5_000]);
+    let before = bench.clone();
+    assert_eq!(bench.feed(&[0; 4_097], &mut replies), Err(22));
+    assert_eq!(bench.feed(&[0; 8], &mut replies[..7]), Err(23));
+    assert_eq!(bench, before);
+    assert_eq!(Bench::empty().feed(&[], &mut replies), Err(21));
+    assert_eq!(replies, [0xAA; 5_000]);
+    assert_eq!(bench.feed(&[0; 4_096], &mut replies), Ok(1_024));
+}
+
+#[test]
+fn carried_bytes_count_for_the_room() {
+    let mut bench = day_bench();
+    assert_eq!(bench.feed(&[1, 0, 0], &mut []), Ok(0));
+    assert_eq!(bench.feed(&[0], &mut [0; 3]), Err(23));
+    assert_eq!(bench.feed(&[], &mut []), Ok(0));
+    assert_eq!(bench.count, 3);
+}
+
+#[test]
+fn table_header_refused() {
+    refused(&[], 1, 0);
+    refused(&TABLE[..6], 1, 0);
+    refused(b"TWC\x01\x00\x01\x00\xFF\x00", 2, 0);
+    refused(b"TWB\x02\x00\x01\x00\xFF\x00", 3, 0);
+    refused(b"TWB\x01\x01\x01\x00\xFF\x00", 3, 0);
+    refused(b"TWB\x01\x00\x00\x00", 4, 0);
+    refused(b"TWB\x01\x00\x01\x81", 4, 0);
+    refused(&TABLE[..15], 5, 0);
+    refused(&[&TABLE[..], &[0]].concat(), 5, 0);
+}
+
+#[test]
+fn table_sizes_at_their_limits() {
+    let with = |n: u8| {
+        let entries = [255, 0].repeat(usize::from(n));
+        [&b"TWB\x01\x00"[..], &[n, 0], &entries].concat()
+    };
+    assert!(load(&with(64)).is_ok_and(|bench| bench.sound()));
+    refused(&with(65), 4, 0);
+}
+
+#[test]
+fn table_devices_refused() {
+    refused(b"TWB\x01\x00\x01\x00\x00\x00", 6, 0);
+    refused(b"TWB\x01\x00\x02\x00\xFF\x00\x01\x00", 6, 1);
+    refused(b"TWB\x01\x00\x02\x00\xFF\x00\xFE\x00", 6, 1);
+    refused(b"TWB\x01\x00\x02\x00\xFF\x02\x01\x00", 6, 0);
+}
+
+#[test]
+fn table_links_refused() {
+    let with = |links: &[[u8; 3]]| {
+        let mut table = b"TWB\x01\x00\x03".to_vec();
+        table.push(links.len() as u8);
+        table.extend([255, 0, 255, 0, 255, 0]);
+        table.extend(links.concat());
+        table
+    };
+    refused(&with(&[[3, 0, 1]]), 7, 0);
+    refused(&with(&[[1, 1, 1]]), 7, 0);
+    refused(&with(&[[1, 0, 4]]), 7, 0);
+    refused(&with(&[[1, 0, 1], [1, 0, 0]]), 7, 1);
+    refused(&with(&[[2, 1, 1], [2, 0, 1]]), 7, 1);
+    refused(&with(&[[2, 0, 1], [1, 0, 1]]), 7, 1);
+    assert!(load(&with(&[[1, 0, 3], [2, 0, 0], [2, 1, 2]])).is_ok());
+}
+
+#[test]
+fn loaded_bench() {
+    let bench = day_bench();
+    assert!(bench.sound());
+    assert_eq!(bench.parent[..4], [255, 255, 0, 0]);
+    assert_eq!(bench.depth[..4], [1, 1, 1, 0]);
+    assert_eq!(
+        (bench.consumer[0], bench.supplier[0], bench.flags[0]),
+        (2, 1, 1)
+    );
+}
+
+#[test]
+fn unsound_benches() {
+    let spoilers: [fn(&mut Bench); 14] = [
+        |bench| bench.n = 2,
+        |bench| bench.m = 0,
+        |bench| bench.parent[5] = 255,
+        |bench| bench.flags[127] = 1,
+        |bench| bench.holds[0] = 32_768,
+        |bench| bench.error[0] = 4_096,
+        |bench| bench.status[0] = RESUMING,
+        |bench| bench.status[1] = 4,
+        |bench| bench.children[2] = 1,
+        |bench| bench.linked[1] = 1,
+        |bench| bench.target = 1,
+        |bench| bench.callback = IDLE_CALLBACK,
+        |bench| bench.carried[0] = 1,
+        |bench| bench.count = 4,
+    ];
+    for spoil in spoilers {
+        let mut bench = day_bench();
+        spoil(&mut bench);
+        assert!(!bench.sound());
+    }
+}
+
+#[test]
+fn zero_rows_can_be_devices() {
+    let mut bench = day_bench();
+    bench.n = 64;
+    assert!(bench.sound());
+    bench.n = 65;
+    assert!(!bench.sound());
+}
+
+#[test]
+fn every_record_keeps_soundness() {
+    let (mut random, mut tally) = (Random::new(7), Tally::default());
+    for _ in 0..500 {
+        let bench = load(&tables::small(&mut random, 12)).unwrap();
+        let mut session = Session::new(bench, &mut tally);
+        session.enable_all(&mut random);
+        let host = any_host(&mut random);
+        session.play(&mut random, host, 60);
+        assert!(session.bench.sound());
+    }
+}
+
+#[test]
+fn cuts_do_not_matter() {
+    let (mut random, mut tally) = (Random::new(11), Tally::default());
+    for _ in 0..200 {
+        let start = load(&tables::small(&mut random, 7)).unwrap();
+        let mut session = Session::new(start.clone(), &mut tally);
+        let host = any_host(&mut random);
+        session.play(&mut random, host, 40);
+        session.leave_rest(&mut random);
+        let (mut bench, mut replies) = (start, vec![0; session.replies.len()]);
+        let whole = bench.feed(&session.log, &mut replies);
+        assert_eq!(whole, Ok(session.replies.len() / 4));
+        assert_eq!((bench, replies), (session.bench, session.replies));
+    }
+}
+
+#[test]
+fn a_seed_gives_the_same_lines() {
+    let lines = |seed| -> Vec<String> {
+        let (mut random, mut tally) = (Random::new(seed), Tally::default());
+        (0..50).map(|_| line(&mut random, &mut tally)).collect()
+    };
+    assert_eq!(lines(3), lines(3));
+    assert_ne!(lines(3), lines(4));
+}
