@@ -71,13 +71,17 @@ before c s c' s' = ltb c c' or (eqb c c' and ltb s s')
 unfoldable pub deviceGood : List ℕ → ℕ → Bool
 deviceGood t p = parentGood p (deviceByte t 0 p) and leb (deviceByte t 1 p) 1
 
--- "Links ascend strictly": link i comes after the one before it
-unfoldable pub ascends : List ℕ → ℕ → Bool
-ascends t i = eqb i 0 or before (linkByte t 0 (i - 1)) (linkByte t 1 (i - 1)) (linkByte t 0 i) (linkByte t 1 i)
+-- the entry of link i but for its place; "flags (bit 0 runtime, bit 1 stateless, the rest zero)"
+unfoldable pub linkFits : List ℕ → ℕ → Bool
+linkFits t i = endsGood (devicesIn t) (linkByte t 0 i) (linkByte t 1 i) and leb (linkByte t 2 i) 3
 
--- 7: the entry of link i; "flags (bit 0 runtime, bit 1 stateless, the rest zero)"
+-- "Links ascend strictly": link i comes after the one before it
+unfoldable pub follows : List ℕ → ℕ → Bool
+follows t i = before (linkByte t 0 (i - 1)) (linkByte t 1 (i - 1)) (linkByte t 0 i) (linkByte t 1 i)
+
+-- 7: the entry of link i
 unfoldable pub linkGood : List ℕ → ℕ → Bool
-linkGood t i = endsGood (devicesIn t) (linkByte t 0 i) (linkByte t 1 i) and leb (linkByte t 2 i) 3 and ascends t i
+linkGood t i = linkFits t i and (eqb i 0 or follows t i)
 
 -- the first faulty entry of each list, or how many entries there are
 unfoldable pub badDevice : List ℕ → ℕ
@@ -95,6 +99,13 @@ pub record TableAnswer : Type 0 where
 abbrev answered : ℕ → ℕ → TableAnswer
 answered number index = record { number = number; index = index }
 
+-- 6 and 7, the first faulty entry
+unfoldable pub entriesAnswer : List ℕ → TableAnswer
+entriesAnswer t =
+    if ltb (badDevice t) (devicesIn t) then answered 6 (badDevice t)
+    else if ltb (badLink t) (linksIn t) then answered 7 (badLink t)
+    else answered 0 0
+
 -- "a table answers the first fault in reading order"
 unfoldable pub tableAnswer : List ℕ → TableAnswer
 tableAnswer t =
@@ -103,9 +114,7 @@ tableAnswer t =
     else if not (versionGood t) then answered 3 0
     else if not (limitsGood t) then answered 4 0
     else if not (lengthGood t) then answered 5 0
-    else if ltb (badDevice t) (devicesIn t) then answered 6 (badDevice t)
-    else if ltb (badLink t) (linksIn t) then answered 7 (badLink t)
-    else answered 0 0
+    else entriesAnswer t
 
 -- ---- the entries as columns
 -- the values of f below n, and "unused rows are zero"
