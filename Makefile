@@ -1,12 +1,14 @@
 # make test      the gate: every check, ending with the toolchain's verdict
 # make sample    the definitions against the second implementation; SEED and COUNT choose the cases
+# make compare   the proved code against the second implementation; SEED and TABLES choose the tables
 SEED ?= 1
 COUNT ?= 100
+TABLES ?= 100000
 
-.PHONY: test listed second sample
+.PHONY: test listed second sample compare
 .NOTPARALLEL:
 
-test: listed second sample
+test: listed second sample compare
 	rt ci
 
 # every folder of crates/ stands in crates.txt
@@ -19,3 +21,7 @@ second:
 
 sample:
 	tests/model/check $(SEED) $(COUNT)
+
+compare:
+	rt staticlib exports
+	cd tests/compare && cargo run --release --offline --quiet -- tables $(SEED) $(TABLES)

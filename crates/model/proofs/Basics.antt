@@ -6,7 +6,7 @@ use mathlib.Core.Logic.{_⊎_, inl, inr, ⊎-elim}
 use Prim.Native.Nat.{ℕ, zero, suc, _<_, _≤_}
 use native.Mathlib.Omega.{arith}
 use native.Mathlib.Nat.{eq-or-lt-of-le}
-use native.Mathlib.Decide.{ℕ-discrete}
+use native.Mathlib.Decide.{ℕ-discrete, decLt}
 use lib.ListN.{length, getD, set, length-set}
 use lib.Seq.{getD-set-same, getD-set-other}
 use Rattle.model.specs.Limits.{DEVICES, ROWS, NONE}
@@ -73,6 +73,18 @@ first-least f zero q e = omega arith
 first-least f (suc n) zero e = by-if (λ x. x ≤ 0) (f 0) _ _ (λ g. omega arith) (λ g. never e g)
 first-least f (suc n) (suc q) e = by-if (λ x. x ≤ suc q) (f 0) _ _ (λ g. omega arith) (λ g. let z = first-least (λ k. f (suc k)) n q e in omega arith)
 
+pub first-low : (f : ℕ → Bool) (n : ℕ) → first f n ≤ n
+unfolding first
+first-low f zero = omega arith
+first-low f (suc n) = by-if (λ x. x ≤ suc n) (f 0) _ _ (λ e. omega arith) (λ e. let z = first-low (λ k. f (suc k)) n in omega arith)
+
+-- where nothing below k passes, k is the first if it passes, or if it is the end
+pub first-at : (f : ℕ → Bool) (n k : ℕ) → ((j : ℕ) → j < k → f j ≡ false) → k < n → f k ≡ true → first f n ≡ k
+first-at f n k none l e = let z = first-least f n k e in elim (decLt (first f n) k) [ yes h ↦ never (first-passes f n (omega arith)) (none (first f n) h) | no h ↦ omega arith ]
+
+pub first-none : (f : ℕ → Bool) (n : ℕ) → ((j : ℕ) → j < n → f j ≡ false) → first f n ≡ n
+first-none f n none = let z = first-low f n in elim (decLt (first f n) n) [ yes h ↦ never (first-passes f n h) (none (first f n) h) | no h ↦ omega arith ]
+
 -- ---- a column after one change
 -- what holds of the new value, and of every other row as it was, holds of every row
 pub at-set : (P : ℕ → ℕ → Type 0) (col : List ℕ) (p v : ℕ) → p < length col → P p v → ((q : ℕ) → (q ≡ p → ⊥) → P q (getD col q 0)) → (q : ℕ) → P q (getD (set col p v) q 0)
@@ -99,3 +111,7 @@ few-rows h = omega arith
 pub few-devices : {n : ℕ} → n ≤ DEVICES → n < NONE
 unfolding DEVICES
 few-devices h = omega arith
+
+pub none-rows : {n : ℕ} → n ≤ NONE → n < ROWS
+unfolding ROWS
+none-rows h = omega arith

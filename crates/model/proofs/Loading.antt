@@ -13,7 +13,7 @@ use lib.Dec.{ltb, leb, eqb}
 use borrow.Author.Tests.{ltb-true, ltb-false, leb-true, eqb-true, eq-eqb, ne-eqb, lt-ltb, le-ltb, not-true, not-false}
 use Rattle.model.specs.Limits.{DEVICES, LINKS, ROWS, NONE}
 use Rattle.model.specs.Tests.{if_then_else_, _and_, _or_, bit, first, column}
-use Rattle.model.specs.Table.{Wiring, TableAnswer, devicesIn, linksIn, deviceByte, linkByte, limitsGood, parentGood, endsGood, before, deviceGood, linkFits, follows, linkGood, badDevice, badLink, entriesAnswer, tableAnswer, padded, wiringIn}
+use Rattle.model.specs.Table.{Wiring, TableAnswer, devicesIn, linksIn, deviceByte, linkByte, limitsGood, parentGood, endsGood, before, deviceGood, linkFits, ascends, linkGood, badDevice, badLink, entriesAnswer, tableAnswer, cell, padded, wiringIn}
 use Rattle.model.specs.State.{State, holdsAt, isChild, isLive, childCount, linkCount, childrenOf, linkedOf, atRest, loaded, emptyState, loadOf}
 use Rattle.model.specs.Sound.{Column, TableRules, noneOpen, Sound}
 use Rattle.model.specs.SoundTest.{tableTest, keptTest, soundTest}
@@ -24,13 +24,13 @@ use Rattle.model.proofs.Running.{nothing-carried}
 
 -- ---- columns that are filled at loading
 pub at-padded : (f : ℕ → ℕ) (n rows p : ℕ) → n ≤ rows → p < n → getD (padded f n rows) p 0 ≡ f p
-unfolding padded if_then_else_
+unfolding padded cell if_then_else_
 at-padded f n rows p h l = at-column _ rows p (omega arith) ∙ (rw (lt-ltb p n l))
 
 padded-column : (f : ℕ → ℕ) (n rows most : ℕ) → n ≤ rows → ((p : ℕ) → p < n → f p ≤ most) → Column rows n most (padded f n rows)
-unfolding padded if_then_else_
+unfolding padded cell if_then_else_
 padded-column f n rows most h low =
-    let long = length-column (λ k. if ltb k n then f k else 0) rows in
+    let long = length-column (cell f n) rows in
     record {
       long = long;
       used = λ p l. rw (at-padded f n rows p h l) (low p l);
@@ -83,15 +83,15 @@ pub record LinkFacts (t : List ℕ) (i : ℕ) : Type 0 where
   pub consumer : linkByte t 0 i < devicesIn t
   pub supplier : linkByte t 1 i < linkByte t 0 i
   pub flags : linkByte t 2 i ≤ 3
-  pub ascend : (i ≡ 0 → ⊥) → follows t i ≡ true
+  pub ascend : ascends t i ≡ true
 
 link-facts : (t : List ℕ) (i : ℕ) → linkGood t i ≡ true → LinkFacts t i
 unfolding linkGood linkFits endsGood
 link-facts t i e = let f = simp tests at e in record { consumer = f .0 .0 .0; supplier = f .0 .0 .1; flags = f .0 .1; ascend = f .1 }
 
-next-follows : (t : List ℕ) (i : ℕ) → follows t (i + 1) ≡ true → before (linkByte t 0 i) (linkByte t 1 i) (linkByte t 0 (i + 1)) (linkByte t 1 (i + 1)) ≡ true
-unfolding follows
-next-follows t i e = let z : i + 1 - 1 ≡ i = omega arith in rw z at e
+next-ascends : (t : List ℕ) (i : ℕ) → ascends t (i + 1) ≡ true → before (linkByte t 0 i) (linkByte t 1 i) (linkByte t 0 (i + 1)) (linkByte t 1 (i + 1)) ≡ true
+unfolding ascends _or_
+next-ascends t i e = let z : i + 1 - 1 ≡ i = omega arith in rw (ne-eqb (i + 1) 0 (λ z. omega arith), z) at e
 
 module _ (t : List ℕ) (l : limitsGood t ≡ true) (ds : (p : ℕ) → p < devicesIn t → deviceGood t p ≡ true) (ls : (i : ℕ) → i < linksIn t → linkGood t i ≡ true) where
   limits : (1 ≤ devicesIn t) × ((devicesIn t ≤ DEVICES) × (linksIn t ≤ LINKS))
@@ -131,7 +131,7 @@ module _ (t : List ℕ) (l : limitsGood t ≡ true) (ds : (p : ℕ) → p < devi
         parents = λ p h. rw (device-at 0 p h) (device-facts t p (ds p h) .0);
         consumers = λ i h. rw (link-at 0 i h) (fact i h .consumer);
         suppliers = λ i h. rw (link-at 1 i h, link-at 0 i h) (fact i h .supplier);
-        ascending = λ i h. let z : i + 1 < linksIn t = omega arith in rw (link-at 0 i (omega arith), link-at 1 i (omega arith), link-at 0 (i + 1) z, link-at 1 (i + 1) z) (next-follows t i (fact (i + 1) z .ascend (λ e. omega arith)));
+        ascending = λ i h. let z : i + 1 < linksIn t = omega arith in rw (link-at 0 i (omega arith), link-at 1 i (omega arith), link-at 0 (i + 1) z, link-at 1 (i + 1) z) (next-ascends t i (fact (i + 1) z .ascend));
       }
 
 taken-rules : (t : List ℕ) → tableAnswer t .number ≡ 0 → TableRules (wiringIn t)

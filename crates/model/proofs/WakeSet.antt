@@ -17,7 +17,7 @@ use Rattle.model.specs.Table.{Wiring}
 use Rattle.model.specs.State.{State, ACTIVE}
 use Rattle.model.specs.WakeSet.{Sleeping, Needs, child, link, InWake, self, next, Lowest, marked, marksChild, marksConsumer, belongs, sweep, wakeMarks, inWake, lowest}
 use Rattle.model.specs.Sound.{TableRules}
-use Rattle.model.proofs.Basics.{and-parts, and-of, or-cases, or-left, or-right, any-find, any-of, first-passes, first-least, at-set, few-rows, few-devices}
+use Rattle.model.proofs.Basics.{and-parts, and-of, or-cases, or-left, or-right, any-find, any-of, first-passes, first-least, at-set, few-devices, none-rows}
 
 -- ---- the order: whatever a device rests on comes before it
 down : {w : Wiring} {p q : ℕ} → TableRules w → p < w .n → Needs w p q → q < p
@@ -84,12 +84,25 @@ module _ {w : Wiring} {status : List ℕ} {t l : ℕ} (r : TableRules w) (ht : t
     λ g. remains q (g .0) (g .1),
   )
 
--- ---- the marks
-abbrev On : List Bool → ℕ → Type 0
+-- ---- the marks, for any columns at all
+-- the members that are reached by falling numbers; where the table's rules hold these are all members
+pub data Falls (w : Wiring) (status : List ℕ) (t : ℕ) : ℕ → Type 0 where
+  here : Sleeping status t → Falls w status t t
+  down-to : {p q : ℕ} → Falls w status t p → Needs w p q → q < p → Sleeping status q → Falls w status t q
+
+pub falls-within : {w : Wiring} {status : List ℕ} {t q : ℕ} → Falls w status t q → q ≤ t
+falls-within (here s) = omega arith
+falls-within (down-to i d l s) = let k = falls-within i in omega arith
+
+abbrev pub On : List Bool → ℕ → Type 0
 On ms p = marked ms p ≡ true
 
-on-below : (ms : List Bool) (p : ℕ) → On ms p → p < length ms
+pub on-below : (ms : List Bool) (p : ℕ) → On ms p → p < length ms
 on-below ms p h = elim (decLt p (length ms)) [ yes l ↦ l | no g ↦ let e : _≡_ {A = ℕ} 0 1 = cc (List·getD-eq-default ms false {n = p} (omega arith)) in absurd (omega arith) ]
+
+-- no mark yet
+pub none-on : (rows p : ℕ) → On (replicate rows false) p → ⊥
+none-on rows p h = let l = on-below (replicate rows false) p h in let e : _≡_ {A = ℕ} 0 1 = cc (getD-replicate rows p false false (omega (arith, length-replicate rows false))) in absurd (omega arith)
 
 module _ (w : Wiring) (status : List ℕ) (t : ℕ) (ms : List Bool) (q : ℕ) where
   child-needs : (q ≡ NONE → ⊥) → eqb (getD (w .ignore) q 0) 0 and marksChild w ms q ≡ true → (p : ℕ) × On ms p × Needs w p q
@@ -108,14 +121,14 @@ module _ (w : Wiring) (status : List ℕ) (t : ℕ) (ms : List Bool) (q : ℕ) w
       let y = and-parts _ _ (z .1) in
       (getD (w .consumer) (v .0) 0, y .1, link (v .0) (v .1) refl (eqb-true (getD (w .supplier) (v .0) 0) q (z .0)) (eqb-true (getD (w .flags) (v .0) 0 % 2) 1 (y .0)))
 
-  -- where marks are members only, what belongs is a member
-  belongs-in : q < NONE → ((p : ℕ) → On ms p → InWake w status t p) → belongs w status t ms q ≡ true → InWake w status t q
+  -- where marks are members above q, what belongs is a member
+  belongs-in : q < NONE → ((p : ℕ) → On ms p → Falls w status t p × (q < p)) → belongs w status t ms q ≡ true → Falls w status t q
   unfolding belongs
   belongs-in hq s e =
       let u = and-parts _ _ e in
       let z : Sleeping status q = ltb-true _ _ (u .0) in
-      ⊎-elim (λ h. rw (eqb-true q t h) (self (rw (eqb-true q t h) at z)))
-      (λ g. ⊎-elim (λ h. let v = child-needs (omega arith) h in next (s (v .0) (v .1)) (v .2) z) (λ h. let v = link-needs h in next (s (v .0) (v .1)) (v .2) z) (or-cases _ _ g))
+      ⊎-elim (λ h. rw (eqb-true q t h) (here (rw (eqb-true q t h) at z)))
+      (λ g. ⊎-elim (λ h. let v = child-needs (omega arith) h in let x = s (v .0) (v .1) in down-to (x .0) (v .2) (x .1) z) (λ h. let v = link-needs h in let x = s (v .0) (v .1) in down-to (x .0) (v .2) (x .1) z) (or-cases _ _ g))
       (or-cases _ _ (u .1))
 
 -- where the members that rest on q are marked, q belongs if it is a member
@@ -124,35 +137,34 @@ unfolding marksChild marksConsumer
 needs-marks w ms p q (child e ne ig) g = or-left _ _ (and-of _ _ (eq-eqb _ _ ig) (any-of _ _ p (g .0) (and-of _ _ (eq-eqb _ _ e) (g .1))))
 needs-marks w ms p q (link k b c o r) g = or-right _ _ (any-of _ _ k b (and-of _ _ (eq-eqb _ _ o) (and-of _ _ (eq-eqb _ _ r) (rw c (g .1)))))
 
-in-belongs : (w : Wiring) (status : List ℕ) (t : ℕ) (ms : List Bool) (q : ℕ) → ((p : ℕ) → InWake w status t p → Needs w p q → (p < w .n) × On ms p) → InWake w status t q → belongs w status t ms q ≡ true
+in-belongs : (w : Wiring) (status : List ℕ) (t : ℕ) (ms : List Bool) (q : ℕ) → ((p : ℕ) → Falls w status t p → q < p → (p < w .n) × On ms p) → Falls w status t q → belongs w status t ms q ≡ true
 unfolding belongs
-in-belongs w status t ms q f (self s) = and-of _ _ (lt-ltb _ _ s) (or-left _ _ (eq-eqb t t refl))
-in-belongs w status t ms q f (next {p = p} i d s) = and-of _ _ (lt-ltb _ _ s) (or-right _ _ (needs-marks w ms p q d (f p i d)))
+in-belongs w status t ms q f (here s) = and-of _ _ (lt-ltb _ _ s) (or-left _ _ (eq-eqb t t refl))
+in-belongs w status t ms q f (down-to {p = p} i d l s) = and-of _ _ (lt-ltb _ _ s) (or-right _ _ (needs-marks w ms p q d (f p i l)))
 
--- the sweep has passed the devices from k on: a mark is a member, and a member passed is marked
+-- the sweep has passed the devices from k on: a mark is a member passed, and a member passed is marked
 record Right (w : Wiring) (status : List ℕ) (t k : ℕ) (ms : List Bool) : Type 0 where
   long : length ms ≡ ROWS
-  sound : (p : ℕ) → On ms p → InWake w status t p
-  full : (p : ℕ) → k ≤ p → InWake w status t p → On ms p
+  sound : (p : ℕ) → On ms p → Falls w status t p × (k ≤ p)
+  full : (p : ℕ) → k ≤ p → Falls w status t p → On ms p
 
-module _ (w : Wiring) (status : List ℕ) (t : ℕ) (r : TableRules w) (ht : t < w .n) where
+module _ (w : Wiring) (status : List ℕ) (t : ℕ) (few : w .n ≤ NONE) (ht : t < w .n) where
   sweep-step : (q : ℕ) (ms : List Bool) → suc q ≤ w .n → Right w status t (suc q) ms → Right w status t q (set ms q (belongs w status t ms q))
   sweep-step q ms hq s =
-      let few = few-devices (r .devices) in
-      let lq : q < length ms = (let l = s .long in let z = few-rows (r .devices) in omega arith) in
+      let lq : q < length ms = (let l = s .long in let z = none-rows few in omega arith) in
       let same = getD-set-same ms q (belongs w status t ms q) false lq in
       record {
         long = length-set ms q _ ∙ s .long;
         sound =
             λ p h.
             elim (ℕ-discrete p q) [
-              | yes e ↦ rw e (belongs-in w status t ms q (omega arith) (s .sound) (sym same ∙ (rw e at h)))
-              | no ne ↦ s .sound p (sym (getD-set-other ms q p (belongs w status t ms q) false ne) ∙ h)
+              | yes e ↦ rw e (belongs-in w status t ms q (omega arith) (s .sound) (sym same ∙ (rw e at h)), omega arith)
+              | no ne ↦ let x = s .sound p (sym (getD-set-other ms q p (belongs w status t ms q) false ne) ∙ h) in (x .0, (let y = x .1 in omega arith))
             ];
         full =
             λ p h i.
             elim (ℕ-discrete p q) [
-              | yes e ↦ rw e (same ∙ in-belongs w status t ms q (λ m j d. let k = member-below r ht j in (k, s .full m (down r k d) j)) (rw e at i))
+              | yes e ↦ rw e (same ∙ in-belongs w status t ms q (λ m j l. let k = falls-within j in (omega arith, s .full m l j)) (rw e at i))
               | no ne ↦ getD-set-other ms q p (belongs w status t ms q) false ne ∙ s .full p (omega arith) i
             ];
       }
@@ -164,19 +176,32 @@ module _ (w : Wiring) (status : List ℕ) (t : ℕ) (r : TableRules w) (ht : t <
 
   wake-right : Right w status t 0 (wakeMarks w status t)
   unfolding wakeMarks
-  wake-right =
-      sweep-right (w .n) _ (omega arith)
-      record {
-        long = length-replicate ROWS false;
-        sound = λ p h. let l = on-below (replicate ROWS false) p h in let e : _≡_ {A = ℕ} 0 1 = cc (getD-replicate ROWS p false false (omega (arith, length-replicate ROWS false))) in absurd (omega arith);
-        full = λ p h i. let k = member-below r ht i in absurd (omega arith);
-      }
+  wake-right = sweep-right (w .n) _ (omega arith) (record { long = length-replicate ROWS false; sound = λ p h. absurd (none-on ROWS p h); full = λ p h i. let k = falls-within i in absurd (omega arith) })
+
+  -- the marks are those of the falling members
+  pub marks-long : length (wakeMarks w status t) ≡ ROWS
+  marks-long = wake-right .long
+
+  pub falls-iff : (q : ℕ) → On (wakeMarks w status t) q ↔ Falls w status t q
+  falls-iff q = (λ h. wake-right .sound q h .0, λ i. wake-right .full q (omega arith) i)
+
+-- where the table's rules hold every member is reached so
+in-falls : {w : Wiring} {status : List ℕ} {t q : ℕ} → TableRules w → t < w .n → InWake w status t q → Falls w status t q
+in-falls r ht (self s) = here s
+in-falls r ht (next i d s) = down-to (in-falls r ht i) d (down r (member-below r ht i) d) s
+
+falls-in : {w : Wiring} {status : List ℕ} {t q : ℕ} → Falls w status t q → InWake w status t q
+falls-in (here s) = self s
+falls-in (down-to i d l s) = next (falls-in i) d s
 
 -- ---- the marks are those of the least set
 module _ (s : State) (r : TableRules (s .wiring)) (t : ℕ) (ht : t < s .wiring .n) where
   pub wake-iff : (q : ℕ) → (inWake s t q ≡ true) ↔ InWake (s .wiring) (s .devices .status) t q
   unfolding inWake
-  wake-iff q = let z = wake-right (s .wiring) (s .devices .status) t r ht in (z .sound q, z .full q (omega arith))
+  wake-iff q =
+      let few = few-devices (r .devices) in
+      let z = falls-iff (s .wiring) (s .devices .status) t (omega arith) ht q in
+      (λ h. falls-in (z .0 h), λ i. z .1 (in-falls r ht i))
 
   -- the first mark is the lowest member's
   pub first-lowest : lowest s t < s .wiring .n → Lowest (s .wiring) (s .devices .status) t (lowest s t)

@@ -76,12 +76,12 @@ unfoldable pub linkFits : List ℕ → ℕ → Bool
 linkFits t i = endsGood (devicesIn t) (linkByte t 0 i) (linkByte t 1 i) and leb (linkByte t 2 i) 3
 
 -- "Links ascend strictly": link i comes after the one before it
-unfoldable pub follows : List ℕ → ℕ → Bool
-follows t i = before (linkByte t 0 (i - 1)) (linkByte t 1 (i - 1)) (linkByte t 0 i) (linkByte t 1 i)
+unfoldable pub ascends : List ℕ → ℕ → Bool
+ascends t i = eqb i 0 or before (linkByte t 0 (i - 1)) (linkByte t 1 (i - 1)) (linkByte t 0 i) (linkByte t 1 i)
 
 -- 7: the entry of link i
 unfoldable pub linkGood : List ℕ → ℕ → Bool
-linkGood t i = linkFits t i and (eqb i 0 or follows t i)
+linkGood t i = linkFits t i and ascends t i
 
 -- the first faulty entry of each list, or how many entries there are
 unfoldable pub badDevice : List ℕ → ℕ
@@ -117,9 +117,12 @@ tableAnswer t =
     else entriesAnswer t
 
 -- ---- the entries as columns
--- the values of f below n, and "unused rows are zero"
+-- row k: what f gives below n, and "unused rows are zero"
+unfoldable pub cell : (ℕ → ℕ) → ℕ → ℕ → ℕ
+cell f n k = if ltb k n then f k else 0
+
 unfoldable pub padded : (ℕ → ℕ) → ℕ → ℕ → List ℕ
-padded f n rows = column (λ k. if ltb k n then f k else 0) rows
+padded f n rows = column (cell f n) rows
 
 unfoldable pub wiringIn : List ℕ → Wiring
 wiringIn t =

@@ -8,7 +8,7 @@ use std::io::{self, BufRead, Write};
 const USES: &[(&str, &[&str])] = &[
     ("Limits", &["DEVICES", "LINKS", "ROWS"]),
     ("Tests", &["if_then_else_", "_and_", "_or_", "_implies_", "any", "all", "first", "count", "tally", "column"]),
-    ("Table", &["markGood", "versionGood", "limitsGood", "lengthGood", "parentGood", "endsGood", "before", "deviceGood", "linkFits", "follows", "linkGood", "badDevice", "badLink", "entriesAnswer", "tableAnswer", "padded", "wiringIn"]),
+    ("Table", &["markGood", "versionGood", "limitsGood", "lengthGood", "parentGood", "endsGood", "before", "deviceGood", "linkFits", "ascends", "linkGood", "badDevice", "badLink", "entriesAnswer", "tableAnswer", "cell", "padded", "wiringIn"]),
     ("State", &["isChild", "isLive", "childCount", "linkCount", "childrenOf", "linkedOf", "atRest", "loaded", "emptyState", "loadOf"]),
     ("WakeSet", &["marksChild", "marksConsumer", "belongs", "sweep", "wakeMarks", "inWake", "lowest"]),
     ("Records", &["bounds", "allowed"]),

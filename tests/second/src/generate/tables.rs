@@ -97,7 +97,11 @@ pub fn any(random: &mut Random) -> Vec<u8> {
 
 /// One or two bytes changed.
 fn damaged(random: &mut Random) -> Vec<u8> {
-    let mut table = any_good(random).bytes();
+    let table = any_good(random).bytes();
+    damage(random, table)
+}
+
+fn damage(random: &mut Random, mut table: Vec<u8>) -> Vec<u8> {
     for _ in 0..random.from_to(1, 2) {
         let at = random.below(table.len() as u64) as usize;
         table[at] = match random.below(4) {
@@ -227,6 +231,57 @@ fn noise(random: &mut Random) -> Vec<u8> {
         let rest = 2 * usize::from(n) + 3 * usize::from(m);
         start.extend((0..rest).map(|_| random.one_of(&[0, 0, 1, 1, 2, 3, 255])));
         table = start;
+    }
+    table
+}
+
+/// A table for loading, of any size up to the largest: good, or bad in an
+/// entry, in one or two bytes, in its length or altogether.
+pub fn of_any_size(random: &mut Random) -> Vec<u8> {
+    let mut draft = sized(random);
+    match random.below(9) {
+        0..=2 => draft.bytes(),
+        3 => {
+            spoil_device(random, &mut draft);
+            draft.bytes()
+        }
+        4 => {
+            spoil_link(random, &mut draft);
+            draft.bytes()
+        }
+        5 => damage(random, draft.bytes()),
+        6 => cut(random, draft.bytes()),
+        7 => extended(random, draft.bytes()),
+        _ => random_bytes(random, draft.bytes()),
+    }
+}
+
+/// A good draft of any size; the largest more often than others.
+fn sized(random: &mut Random) -> Draft {
+    let n = random.from_to(1, u64::from(MAX_DEVICES) + 4) as u8;
+    let m = random.below(u64::from(MAX_LINKS) + 9) as usize;
+    Draft::good(random, n.min(MAX_DEVICES), m.min(MAX_LINKS.into()))
+}
+
+/// Cut anywhere before the end.
+fn cut(random: &mut Random, mut table: Vec<u8>) -> Vec<u8> {
+    table.truncate(random.below(table.len() as u64) as usize);
+    table
+}
+
+/// Up to ten bytes over.
+fn extended(random: &mut Random, mut table: Vec<u8>) -> Vec<u8> {
+    for _ in 0..random.from_to(1, 10) {
+        table.push(random.byte());
+    }
+    table
+}
+
+/// Random bytes; half of the time the header of the table stays.
+fn random_bytes(random: &mut Random, mut table: Vec<u8>) -> Vec<u8> {
+    let from = random.one_of(&[0, 7]);
+    for byte in &mut table[from..] {
+        *byte = random.byte();
     }
     table
 }

@@ -1,0 +1,34 @@
+-- `day::build::chain` meets its contract: the devices passed stand in a chain. Assumes nothing.
+use mathlib.Core.Path.{_≡_}
+use Prim.Native.Nat.{_≤_, _-_}
+use native.Mathlib.Numerals.{add-one}
+use native.Mathlib.Omega.{arith}
+use borrow.Author.Needs.{needs}
+use lib.ListN.{length, length-set}
+use Rattle.day.specs.Bytes.{chained}
+use Rattle.day.proofs.build.chain.Statement.{statement}
+use Rattle.day.proofs.build.chain.Tie as tie
+
+abbrev Inv-loop : tie.InvT-loop
+Inv-loop t₀ p₀ t p = (p ≤ 63) × (t ≡ chained p t₀) × (length t ≡ length t₀)
+
+abbrev μ-loop : tie.MeasureT-loop
+μ-loop t₀ p₀ t p = 63 - p
+
+loop-holds : tie.Need-loop-holds Inv-loop μ-loop
+unfolding chained
+loop-holds c = search needs
+
+loop-again : tie.Need-loop-again Inv-loop μ-loop
+unfolding chained
+loop-again c = (search needs, rw (add-one, c .wide .ensures, c .before .before .loop .inv .1), simp length-set (search needs))
+
+returns : tie.Need-returns Inv-loop μ-loop
+returns c =
+    let e : c .before .loop .p ≡ 63 = omega arith in
+    rw e at (c .before .loop .inv .1)
+
+pub chain-spec : {M : Type 1} → statement M
+chain-spec =
+    tie.close
+    (tie.spec Inv-loop μ-loop loop-holds (λ c κs. search needs) (λ c. search needs) (λ c. search needs) (λ c. search needs) (λ c. search needs) (λ c. search needs) loop-again returns)

@@ -1,0 +1,9 @@
+// A day at the bench: what the keeper answers, a line for each case.
+mod build;
+mod empty;
+mod print;
+mod tables;
+
+fn main() {
+    tables::cases();
+}

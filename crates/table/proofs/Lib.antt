@@ -1,0 +1,3 @@
+-- The laws of the scan and of the columns.
+pub mod Scanning
+pub mod Columns

@@ -1,0 +1,257 @@
+// The device table ("part table" of document 01): the answer to any bytes, and the entries as columns.
+ghost use mathlib.Core.Path.{_≡_};
+ghost use Rattle.model.specs.Limits.{LINKS, ROWS};
+ghost use Rattle.model.specs.Table.{byteAt, devicesIn, linksIn, deviceByte, linkByte, markGood, versionGood, limitsGood, lengthGood, parentGood, endsGood, before, deviceGood, linkFits, ascends, entriesAnswer, tableAnswer, cell, padded};
+ghost use Rattle.table.specs.Answers.{answerOf};
+use model::DEVICES;
+use model::LINKS;
+use model::NONE;
+use model::ROWS;
+
+// The answer to a table: taken, or a refusal, in document 01's order. An entry's refusal has its index.
+pub enum Answer {
+    Taken,
+    Short,
+    Mark,
+    Version,
+    Limits,
+    Length,
+    Device(u8),
+    Link(u16),
+}
+
+fn wide(x: u8) -> usize
+    ensures { λ r. ⌜ r ≡ x ⌝ }
+{
+    x as usize
+}
+
+fn wide16(x: u16) -> usize
+    ensures { λ r. ⌜ r ≡ x ⌝ }
+{
+    x as usize
+}
+
+// Byte k of a table, 0 past its end.
+pub fn byte_at(t: &[u8], k: usize) -> u8
+    ensures { λ r. ⌜ r ≡ byteAt (now (t .entry)) k ⌝ }
+{
+    if k < t.len() { t[k] } else { 0 }
+}
+
+fn device_byte(t: &[u8], field: u8, p: u8) -> u8
+    ensures { λ r. ⌜ r ≡ deviceByte (now (t .entry)) field p ⌝ }
+{
+    byte_at(t, 7 + 2 * wide(p) + wide(field))
+}
+
+fn link_byte(t: &[u8], field: u8, i: u16) -> u8
+    ensures { λ r. ⌜ r ≡ linkByte (now (t .entry)) field i ⌝ }
+{
+    let n = wide(byte_at(t, 5));
+    byte_at(t, 7 + 2 * n + 3 * wide16(i) + wide(field))
+}
+
+// A parent is none, or lower than the device's own number.
+fn parent_good(p: u8, parent: u8) -> bool
+    ensures { λ r. ⌜ r ≡ parentGood p parent ⌝ }
+{
+    if parent == NONE {
+        return true;
+    }
+    parent < p
+}
+
+// The entry of device p keeps the rules.
+fn device_good(t: &[u8], p: u8) -> bool
+    ensures { λ r. ⌜ r ≡ deviceGood (now (t .entry)) p ⌝ }
+{
+    if !parent_good(p, device_byte(t, 0, p)) {
+        return false;
+    }
+    device_byte(t, 1, p) <= 1
+}
+
+// The consumer is one of n devices, and the supplier lower than the consumer.
+fn ends_good(n: u8, consumer: u8, supplier: u8) -> bool
+    ensures { λ r. ⌜ r ≡ endsGood n consumer supplier ⌝ }
+{
+    if n <= consumer {
+        return false;
+    }
+    supplier < consumer
+}
+
+// One link comes strictly before another: by consumer, then by supplier.
+fn comes_before(c: u8, s: u8, c2: u8, s2: u8) -> bool
+    ensures { λ r. ⌜ r ≡ before c s c2 s2 ⌝ }
+{
+    if c < c2 {
+        return true;
+    }
+    if c == c2 {
+        return s < s2;
+    }
+    false
+}
+
+// The entry of link i keeps the rules, but for the order of links.
+fn link_fits(t: &[u8], i: u16) -> bool
+    ensures { λ r. ⌜ r ≡ linkFits (now (t .entry)) i ⌝ }
+{
+    if !ends_good(byte_at(t, 5), link_byte(t, 0, i), link_byte(t, 1, i)) {
+        return false;
+    }
+    link_byte(t, 2, i) <= 3
+}
+
+// Link i comes after the one before it, if there is one.
+fn link_ascends(t: &[u8], i: u16) -> bool
+    ensures { λ r. ⌜ r ≡ ascends (now (t .entry)) i ⌝ }
+{
+    if i == 0 {
+        return true;
+    }
+    let c = link_byte(t, 0, i - 1);
+    let s = link_byte(t, 1, i - 1);
+    comes_before(c, s, link_byte(t, 0, i), link_byte(t, 1, i))
+}
+
+// The first faulty entry in reading order: devices, then links.
+fn scan(t: &[u8]) -> Answer
+    ensures { λ r. ⌜ answerOf r ≡ entriesAnswer (now (t .entry)) ⌝ }
+{
+    let devices = byte_at(t, 5);
+    let links = byte_at(t, 6) as u16;
+    let mut p: u8 = 0;
+    let mut i: u16 = 0;
+    let answer = 'entries: loop {
+        if p < devices {
+            if !device_good(t, p) {
+                break 'entries Answer::Device(p);
+            }
+            p += 1;
+        } else {
+            if links <= i {
+                break 'entries Answer::Taken;
+            }
+            if !link_fits(t, i) {
+                break 'entries Answer::Link(i);
+            }
+            if !link_ascends(t, i) {
+                break 'entries Answer::Link(i);
+            }
+            i += 1;
+        }
+    };
+    answer
+}
+
+// The mark: the letters TWB.
+fn mark_good(t: &[u8]) -> bool
+    ensures { λ r. ⌜ r ≡ markGood (now (t .entry)) ⌝ }
+{
+    if byte_at(t, 0) != b'T' {
+        return false;
+    }
+    if byte_at(t, 1) != b'W' {
+        return false;
+    }
+    byte_at(t, 2) == b'B'
+}
+
+// Version 1.
+fn version_good(t: &[u8]) -> bool
+    ensures { λ r. ⌜ r ≡ versionGood (now (t .entry)) ⌝ }
+{
+    wide(byte_at(t, 3)) + 256 * wide(byte_at(t, 4)) == 1
+}
+
+// The device count and the link count lie within the limits.
+fn limits_good(t: &[u8]) -> bool
+    ensures { λ r. ⌜ r ≡ limitsGood (now (t .entry)) ⌝ }
+{
+    let n = byte_at(t, 5);
+    if n < 1 {
+        return false;
+    }
+    if DEVICES < n {
+        return false;
+    }
+    wide(byte_at(t, 6)) <= LINKS
+}
+
+// The length is exact.
+fn length_good(t: &[u8]) -> bool
+    ensures { λ r. ⌜ r ≡ lengthGood (now (t .entry)) ⌝ }
+{
+    t.len() == 7 + 2 * wide(byte_at(t, 5)) + 3 * wide(byte_at(t, 6))
+}
+
+// The answer to any bytes: the first fault in reading order.
+pub fn judge(t: &[u8]) -> Answer
+    ensures { λ r. ⌜ answerOf r ≡ tableAnswer (now (t .entry)) ⌝ }
+{
+    if t.len() < 7 {
+        return Answer::Short;
+    }
+    if !mark_good(t) {
+        return Answer::Mark;
+    }
+    if !version_good(t) {
+        return Answer::Version;
+    }
+    if !limits_good(t) {
+        return Answer::Limits;
+    }
+    if !length_good(t) {
+        return Answer::Length;
+    }
+    scan(t)
+}
+
+// Row p of a column of device entries: the entry's byte, 0 where there is no device p.
+fn device_row(t: &[u8], field: u8, p: usize) -> u8
+    ensures { λ r. ⌜ r ≡ cell (deviceByte (now (t .entry)) field) (devicesIn (now (t .entry))) p ⌝ }
+{
+    if p < wide(byte_at(t, 5)) {
+        return device_byte(t, field, p as u8);
+    }
+    0
+}
+
+// One field of the device entries as a column: 0 the parent, 1 the flags.
+pub fn device_column(t: &[u8], field: u8) -> [u8; ROWS]
+    ensures { λ r. ⌜ r ≡ padded (deviceByte (now (t .entry)) field) (devicesIn (now (t .entry))) ROWS ⌝ }
+{
+    let mut column = [0u8; ROWS];
+    let mut p: usize = 0;
+    while p < ROWS {
+        column[p] = device_row(t, field, p);
+        p += 1;
+    }
+    column
+}
+
+// Row i of a column of link entries: the entry's byte, 0 where there is no link i.
+fn link_row(t: &[u8], field: u8, i: usize) -> u8
+    ensures { λ r. ⌜ r ≡ cell (linkByte (now (t .entry)) field) (linksIn (now (t .entry))) i ⌝ }
+{
+    if i < wide(byte_at(t, 6)) {
+        return link_byte(t, field, i as u16);
+    }
+    0
+}
+
+// One field of the link entries as a column: 0 the consumer, 1 the supplier, 2 the flags.
+pub fn link_column(t: &[u8], field: u8) -> [u8; LINKS]
+    ensures { λ r. ⌜ r ≡ padded (linkByte (now (t .entry)) field) (linksIn (now (t .entry))) LINKS ⌝ }
+{
+    let mut column = [0u8; LINKS];
+    let mut i: usize = 0;
+    while i < LINKS {
+        column[i] = link_row(t, field, i);
+        i += 1;
+    }
+    column
+}
