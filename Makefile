@@ -1,9 +1,10 @@
 # make test      the gate: every check, ending with the toolchain's verdict
 # make sample    the definitions against the second implementation; SEED and COUNT choose the cases
-# make compare   the proved code against the second implementation; SEED and TABLES choose the tables
+# make compare   the proved code against the second implementation; SEED, TABLES and BENCHES choose the cases
 SEED ?= 1
 COUNT ?= 100
 TABLES ?= 100000
+BENCHES ?= 2000
 
 .PHONY: test listed second sample compare
 .NOTPARALLEL:
@@ -24,4 +25,6 @@ sample:
 
 compare:
 	rt staticlib exports
-	cd tests/compare && cargo run --release --offline --quiet -- tables $(SEED) $(TABLES)
+	cd tests/compare && cargo build --release --offline --quiet
+	tests/compare/target/release/compare tables $(SEED) $(TABLES)
+	tests/compare/target/release/compare benches $(SEED) $(BENCHES)

@@ -3,7 +3,9 @@ mod build;
 mod empty;
 mod print;
 mod tables;
+mod wakes;
 
 fn main() {
     tables::cases();
+    wakes::cases();
 }

@@ -39,7 +39,11 @@ column-zero f zero h = refl
 column-zero f (suc n) h = ap₂ (λ (x : ℕ) (l : List ℕ). x ∷ l) (h 0) (column-zero (λ k. f (suc k)) n (λ k. h (suc k)))
 
 -- ---- counts
-count-below : (f g : ℕ → Bool) (n : ℕ) → ((k : ℕ) → k < n → f k ≡ g k) → count f n ≡ count g n
+bit-low : (b : Bool) → bit b ≤ 1
+bit-low true = omega arith
+bit-low false = omega arith
+
+pub count-below : (f g : ℕ → Bool) (n : ℕ) → ((k : ℕ) → k < n → f k ≡ g k) → count f n ≡ count g n
 unfolding count
 count-below f g zero h = refl
 count-below f g (suc n) h = ap₂ (λ (a b : ℕ). a + b) (count-below f g n (λ k l. h k (omega arith))) (ap bit (h n (omega arith)))
@@ -50,6 +54,11 @@ count-has f zero i l e = absurd (omega arith)
 count-has f (suc n) i l e =
     let c : (i ≡ n) ⊎ (i < n) = eq-or-lt-of-le (omega arith) in
     ⊎-elim (λ h. let z : bit (f n) ≡ 1 = ap bit (rw h at e) in omega arith) (λ h. let z = count-has f n i h e in omega arith) c
+
+pub count-low : (f : ℕ → Bool) (n : ℕ) → count f n ≤ n
+unfolding count
+count-low f zero = omega arith
+count-low f (suc n) = let z = count-low f n in let y = bit-low (f n) in omega arith
 
 count-none : (f : ℕ → Bool) (n : ℕ) → ((k : ℕ) → f k ≡ false) → count f n ≡ 0
 unfolding count

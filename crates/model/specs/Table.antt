@@ -20,6 +20,10 @@ pub record Wiring : Type 0 where
   pub supplier : List ℕ
   pub flags : List ℕ
 
+-- a wiring from its columns, as contracts over lent columns name it
+abbrev pub wired : ℕ → ℕ → List ℕ → List ℕ → List ℕ → List ℕ → List ℕ → Wiring
+wired n m parent ignore consumer supplier flags = record { n = n; m = m; parent = parent; ignore = ignore; consumer = consumer; supplier = supplier; flags = flags }
+
 -- ---- where things stand
 abbrev pub byteAt : List ℕ → ℕ → ℕ
 byteAt t i = getD t i 0

@@ -1,5 +1,7 @@
 //! The keeper's exported functions, made safe to call.
 
+use second::Bench;
+
 /// The rows of a column.
 pub const ROWS: usize = 256;
 
@@ -27,4 +29,127 @@ pub fn loaded_column(table: &[u8], which: u8) -> Column {
     // nothing else.
     unsafe { keeper_loaded_column(table.as_ptr(), table.len(), which, &mut column) };
     column
+}
+
+type DeviceBytes = [u8; ROWS];
+type LinkBytes = [u8; 128];
+
+/// The marks of a set of devices.
+pub type Marks = [bool; ROWS];
+
+// A reference to an array is passed as its start.
+extern "C" {
+    fn keeper_wake_set(
+        parent: &DeviceBytes,
+        ignore: &DeviceBytes,
+        status: &DeviceBytes,
+        consumer: &LinkBytes,
+        supplier: &LinkBytes,
+        flags: &LinkBytes,
+        n: u8,
+        m: u16,
+        t: u8,
+        out: &mut Marks,
+    );
+    fn keeper_lowest(
+        parent: &DeviceBytes,
+        ignore: &DeviceBytes,
+        status: &DeviceBytes,
+        consumer: &LinkBytes,
+        supplier: &LinkBytes,
+        flags: &LinkBytes,
+        n: u8,
+        m: u16,
+        t: u8,
+    ) -> u8;
+    fn keeper_parents_above(parent: &DeviceBytes, p: u8) -> u8;
+    fn keeper_set_status(
+        parent: &DeviceBytes,
+        consumer: &LinkBytes,
+        supplier: &LinkBytes,
+        flags: &LinkBytes,
+        m: u16,
+        status: &mut DeviceBytes,
+        children: &mut DeviceBytes,
+        linked: &mut Column,
+        p: u8,
+        v: u8,
+    );
+}
+
+/// The wake set of a device.
+pub fn wake_set(b: &Bench, device: u8) -> Marks {
+    let mut marks = [false; ROWS];
+    // SAFETY: the function reads the columns, writes the marks and nothing else.
+    unsafe {
+        keeper_wake_set(
+            &b.parent,
+            &b.ignore,
+            &b.status,
+            &b.consumer,
+            &b.supplier,
+            &b.flags,
+            b.n,
+            b.m.into(),
+            device,
+            &mut marks,
+        );
+    }
+    marks
+}
+
+/// The lowest member of the wake set of a device; n where it has none.
+pub fn lowest(b: &Bench, device: u8) -> u8 {
+    // SAFETY: the function reads the columns and nothing else.
+    unsafe {
+        keeper_lowest(
+            &b.parent,
+            &b.ignore,
+            &b.status,
+            &b.consumer,
+            &b.supplier,
+            &b.flags,
+            b.n,
+            b.m.into(),
+            device,
+        )
+    }
+}
+
+/// How many parents stand above a device.
+pub fn parents_above(b: &Bench, device: u8) -> u8 {
+    // SAFETY: the function reads the column and nothing else.
+    unsafe { keeper_parents_above(&b.parent, device) }
+}
+
+/// What a change of status leaves: the status, the child counts and the link counts.
+pub struct Turned {
+    pub status: DeviceBytes,
+    pub children: DeviceBytes,
+    pub linked: Column,
+}
+
+/// A bench's counts after the status of a device becomes v. Child counts have a byte here.
+pub fn set_status(b: &Bench, device: u8, v: u8) -> Turned {
+    let mut turned = Turned {
+        status: b.status,
+        children: b.children.map(|count| count as u8),
+        linked: b.linked,
+    };
+    // SAFETY: the function reads the columns, writes the three and nothing else.
+    unsafe {
+        keeper_set_status(
+            &b.parent,
+            &b.consumer,
+            &b.supplier,
+            &b.flags,
+            b.m.into(),
+            &mut turned.status,
+            &mut turned.children,
+            &mut turned.linked,
+            device,
+            v,
+        );
+    }
+    turned
 }

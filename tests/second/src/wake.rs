@@ -9,7 +9,7 @@ impl Bench {
     /// Document 01: wake set. The least set with the device, its sleeping
     /// counting parent, its sleeping suppliers, and theirs in turn; empty for
     /// a powered device.
-    pub(crate) fn wake_set(&self, device: usize) -> Set {
+    pub fn wake_set(&self, device: usize) -> Set {
         let mut set = [false; DEVICE_ROWS];
         let mut open = Vec::new();
         self.take(device, &mut set, &mut open);
@@ -33,12 +33,12 @@ impl Bench {
     }
 
     /// The lowest-numbered member of a device's wake set.
-    pub(crate) fn lowest_to_wake(&self, device: usize) -> Option<usize> {
+    pub fn lowest_to_wake(&self, device: usize) -> Option<usize> {
         self.wake_set(device).iter().position(|&member| member)
     }
 
     /// Document 01: how many parents stand above a part.
-    pub(crate) fn parents(&self, device: usize) -> u32 {
+    pub fn parents(&self, device: usize) -> u32 {
         std::iter::successors(self.parent_of(device), |&above| self.parent_of(above))
             .fold(0, |number, _| number + 1)
     }

@@ -1,0 +1,115 @@
+//! Random benches: what the keeper's algorithms and the second implementation say of them.
+
+use crate::keeper;
+use second::generate::hosts::{any_host, Session};
+use second::generate::random::Random;
+use second::generate::tables;
+use second::generate::tally::Tally;
+use second::Bench;
+
+/// Compares so many random benches: how many devices were asked about, or the first difference.
+pub fn compare(seed: u64, count: u64) -> Result<String, String> {
+    deepest().map_err(|what| format!("the deepest wake set: {what}"))?;
+    let mut random = Random::new(seed);
+    let (mut devices, mut members) = (0, 0);
+    for number in 0..count {
+        let bench = reached(&mut random);
+        for device in 0..bench.n {
+            members += same(&bench, device)
+                .map_err(|what| format!("seed {seed}, bench {number}, device {device}: {what}"))?;
+            devices += 1;
+        }
+    }
+    Ok(format!(
+        "benches: {count} compared, {devices} devices, {members} members of wake sets"
+    ))
+}
+
+/// The deepest wake set: 64 devices in one chain of parents, with two suppliers for each. It is found within a stack of 1 MB.
+fn deepest() -> Result<(), String> {
+    let mut table = b"TWB\x01\x00\x40\x7d\xff\x00".to_vec();
+    table.extend((1..64).flat_map(|p: u8| [p - 1, 0]));
+    table.extend([1, 0, 1]);
+    table.extend((2..64).flat_map(|p: u8| [p, p - 2, 1, p, p - 1, 1]));
+    let bench = second::load(&table).map_err(|refusal| format!("refused {}", refusal.number))?;
+    let asked = std::thread::Builder::new()
+        .stack_size(1 << 20)
+        .spawn(move || same(&bench, 63));
+    let members = asked.map_err(|error| error.to_string())?.join();
+    match members.map_err(|_| "the stack is too small".to_string())?? {
+        64 => Ok(()),
+        members => Err(format!("{members} members, not 64")),
+    }
+}
+
+/// A bench that a random log has led to.
+fn reached(random: &mut Random) -> Bench {
+    let bench = loop {
+        if let Ok(bench) = second::load(&tables::of_any_size(random)) {
+            break bench;
+        }
+    };
+    let mut tally = Tally::default();
+    let mut session = Session::new(bench, &mut tally);
+    if random.percent(80) {
+        session.enable_all(random);
+    }
+    let host = any_host(random);
+    let records = random.from_to(0, 120);
+    session.play(random, host, records);
+    session.bench
+}
+
+/// How many members the wake set of a device has, or how the two differ.
+fn same(bench: &Bench, device: u8) -> Result<u64, String> {
+    let right = bench.wake_set(device.into());
+    let members = keeper::wake_set(bench, device);
+    if members != right {
+        return Err(format!(
+            "wake set {:?}, not {:?}",
+            listed(&members),
+            listed(&right)
+        ));
+    }
+    let lowest = keeper::lowest(bench, device);
+    let expected = bench
+        .lowest_to_wake(device.into())
+        .unwrap_or(bench.n.into());
+    if usize::from(lowest) != expected {
+        return Err(format!("lowest {lowest}, not {expected}"));
+    }
+    let above = keeper::parents_above(bench, device);
+    let expected = bench.parents(device.into());
+    if u32::from(above) != expected {
+        return Err(format!("{above} parents above, not {expected}"));
+    }
+    for status in 0..4 {
+        same_counts(bench, device, status)?;
+    }
+    Ok(listed(&members).len() as u64)
+}
+
+/// The counts after a change of status are the recounts.
+fn same_counts(bench: &Bench, device: u8, status: u8) -> Result<(), String> {
+    let turned = keeper::set_status(bench, device, status);
+    let mut right = bench.clone();
+    right.status[usize::from(device)] = status;
+    for row in 0..right.status.len() {
+        let expected = (right.recount_children(row), right.recount_links(row));
+        let counts = (
+            usize::from(turned.children[row]),
+            usize::from(turned.linked[row]),
+        );
+        if counts != expected || turned.status[row] != right.status[row] {
+            return Err(format!(
+                "status {status}, row {row}: counts {counts:?}, not {expected:?}"
+            ));
+        }
+    }
+    Ok(())
+}
+
+/// The devices of a set.
+fn listed(marks: &keeper::Marks) -> Vec<usize> {
+    (0..marks.len()).filter(|&device| marks[device]).collect()
+}
