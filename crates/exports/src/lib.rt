@@ -7,6 +7,8 @@ ghost use Rattle.model.specs.WakeSet.{marked, wakeMarks};
 ghost use Rattle.model.specs.Table.{wired};
 ghost use Rattle.wakeset.specs.Marks.{Above};
 ghost use Rattle.counts.specs.Shifts.{Turned};
+ghost use Rattle.model.specs.SoundTest.{soundTest};
+ghost use Rattle.soundness.specs.Lent.{stateFrom};
 ghost use lib.ListN.{getD};
 ghost use Rattle.model.specs.State.{loadOf};
 ghost use Rattle.table.specs.Answers.{answerOf};
@@ -207,4 +209,50 @@ pub extern "C" fn keeper_set_status<'a>(
         p,
         v,
     );
+}
+
+// A bench in these columns is sound.
+#[no_mangle]
+pub extern "C" fn keeper_sound<'a>(
+    n: u8,
+    m: u16,
+    parent: &'a [u8; ROWS],
+    ignore: &'a [u8; ROWS],
+    consumer: &'a [u8; LINKS],
+    supplier: &'a [u8; LINKS],
+    flags: &'a [u8; LINKS],
+    status: &'a [u8; ROWS],
+    holds: &'a [u16; ROWS],
+    depth: &'a [u8; ROWS],
+    error: &'a [u16; ROWS],
+    children: &'a [u8; ROWS],
+    linked: &'a [u16; ROWS],
+    callback: u8,
+    asked: u8,
+    target: u8,
+    carried: &'a [u8; 3],
+    used: u8,
+) -> bool
+    ensures { λ r. ⌜ r ≡ soundTest (stateFrom n m (now (parent .entry)) (now (ignore .entry)) (now (consumer .entry)) (now (supplier .entry)) (now (flags .entry)) (now (status .entry)) (now (holds .entry)) (now (depth .entry)) (now (error .entry)) (now (children .entry)) (now (linked .entry)) callback asked target (now (carried .entry)) used) ⌝ }
+{
+    soundness::sound(
+        n,
+        m,
+        parent,
+        ignore,
+        consumer,
+        supplier,
+        flags,
+        status,
+        holds,
+        depth,
+        error,
+        children,
+        linked,
+        callback,
+        asked,
+        target,
+        carried,
+        used,
+    )
 }

@@ -1,6 +1,7 @@
 //! Random benches: what the keeper's algorithms and the second implementation say of them.
 
 use crate::keeper;
+use second::generate::damage::{changed, damaged};
 use second::generate::hosts::{any_host, Session};
 use second::generate::random::Random;
 use second::generate::tables;
@@ -11,9 +12,14 @@ use second::Bench;
 pub fn compare(seed: u64, count: u64) -> Result<String, String> {
     deepest().map_err(|what| format!("the deepest wake set: {what}"))?;
     let mut random = Random::new(seed);
-    let (mut devices, mut members) = (0, 0);
+    let (mut devices, mut members, mut sound) = (0, 0, [0, 0]);
     for number in 0..count {
         let bench = reached(&mut random);
+        for verdict in verdicts(&mut random, &bench)
+            .map_err(|what| format!("seed {seed}, bench {number}: {what}"))?
+        {
+            sound[usize::from(verdict)] += 1;
+        }
         for device in 0..bench.n {
             members += same(&bench, device)
                 .map_err(|what| format!("seed {seed}, bench {number}, device {device}: {what}"))?;
@@ -21,7 +27,8 @@ pub fn compare(seed: u64, count: u64) -> Result<String, String> {
         }
     }
     Ok(format!(
-        "benches: {count} compared, {devices} devices, {members} members of wake sets"
+        "benches: {count} compared, {devices} devices, {members} members of wake sets, sound {}, not sound {}",
+        sound[1], sound[0]
     ))
 }
 
@@ -58,6 +65,24 @@ fn reached(random: &mut Random) -> Bench {
     let records = random.from_to(0, 120);
     session.play(random, host, records);
     session.bench
+}
+
+/// The verdicts on a bench, on changed ones that stay sound, and on ones with a field or two damaged.
+fn verdicts(random: &mut Random, bench: &Bench) -> Result<Vec<bool>, String> {
+    let mut benches = vec![bench.clone(), changed(random, bench)];
+    benches.extend((0..8).map(|_| damaged(random, bench)));
+    let mut verdicts = Vec::new();
+    for (number, bench) in benches.iter().enumerate() {
+        let right = bench.sound();
+        if keeper::sound(bench) != right {
+            return Err(format!(
+                "variant {number} is sound: {}, not {right}",
+                !right
+            ));
+        }
+        verdicts.push(right);
+    }
+    Ok(verdicts)
 }
 
 /// How many members the wake set of a device has, or how the two differ.

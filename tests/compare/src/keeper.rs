@@ -63,6 +63,26 @@ extern "C" {
         t: u8,
     ) -> u8;
     fn keeper_parents_above(parent: &DeviceBytes, p: u8) -> u8;
+    fn keeper_sound(
+        n: u8,
+        m: u16,
+        parent: &DeviceBytes,
+        ignore: &DeviceBytes,
+        consumer: &LinkBytes,
+        supplier: &LinkBytes,
+        flags: &LinkBytes,
+        status: &DeviceBytes,
+        holds: &Column,
+        depth: &DeviceBytes,
+        error: &Column,
+        children: &DeviceBytes,
+        linked: &Column,
+        callback: u8,
+        asked: u8,
+        target: u8,
+        carried: &[u8; 3],
+        used: u8,
+    ) -> bool;
     fn keeper_set_status(
         parent: &DeviceBytes,
         consumer: &LinkBytes,
@@ -152,4 +172,32 @@ pub fn set_status(b: &Bench, device: u8, v: u8) -> Turned {
         );
     }
     turned
+}
+
+/// Whether a bench is sound. Child counts have a byte here.
+pub fn sound(b: &Bench) -> bool {
+    let children = b.children.map(|count| count as u8);
+    // SAFETY: the function reads the columns and nothing else.
+    unsafe {
+        keeper_sound(
+            b.n,
+            b.m.into(),
+            &b.parent,
+            &b.ignore,
+            &b.consumer,
+            &b.supplier,
+            &b.flags,
+            &b.status,
+            &b.holds,
+            &b.depth,
+            &b.error,
+            &children,
+            &b.linked,
+            b.callback,
+            b.asked,
+            b.target,
+            &b.carried,
+            b.count,
+        )
+    }
 }

@@ -1,0 +1,72 @@
+-- `soundness::links_ascend` meets its contract. The invariant: each link passed comes before the next. Assumes nothing.
+use mathlib.Core.Path.{_≡_}
+use mathlib.Core.Bool.{true}
+use Prim.Native.Nat.{ℕ, _+_, _-_, _<_, _≤_}
+use native.Mathlib.Omega.{arith}
+use lib.ListN.{getD}
+use borrow.Author.Count.{below-more}
+use Rattle.model.specs.Limits.{LINKS}
+use Rattle.model.specs.Table.{before}
+use Rattle.soundness.proofs.Chains.{passed, failed}
+use Rattle.soundness.proofs.Loops.{all-passed, all-failed}
+use borrow.Author.Needs.{needs}
+use Rattle.soundness.proofs.links_ascend.Statement.{statement}
+use Rattle.soundness.proofs.links_ascend.Tie as tie
+
+abbrev Inv-loop : tie.InvT-loop
+Inv-loop m consumer supplier i₀ i = (i ≤ (m - 1)) × ((j : ℕ) → j < i → before (getD consumer j 0) (getD supplier j 0) (getD consumer (j + 1) 0) (getD supplier (j + 1) 0) ≡ true)
+
+abbrev μ-loop : tie.MeasureT-loop
+μ-loop m consumer supplier i₀ i = (m - 1) - i
+
+loop-holds : tie.Need-loop-holds Inv-loop μ-loop
+loop-holds c = (omega arith, λ j l. absurd (omega arith))
+
+add-loop : tie.Need-add-loop Inv-loop μ-loop
+unfolding LINKS
+add-loop c = omega arith
+
+element-copy-out-comes-before : tie.Need-element-copy-out-comes-before Inv-loop μ-loop
+unfolding LINKS
+element-copy-out-comes-before c = omega arith
+
+element-copy-out-comes-before-2 : tie.Need-element-copy-out-comes-before-2 Inv-loop μ-loop
+unfolding LINKS
+element-copy-out-comes-before-2 c = omega arith
+
+add-comes-before : tie.Need-add-comes-before Inv-loop μ-loop
+unfolding LINKS
+add-comes-before c = omega arith
+
+element-copy-out-comes-before-3 : tie.Need-element-copy-out-comes-before-3 Inv-loop μ-loop
+unfolding LINKS
+element-copy-out-comes-before-3 c = omega arith
+
+add-comes-before-2 : tie.Need-add-comes-before-2 Inv-loop μ-loop
+unfolding LINKS
+add-comes-before-2 c = omega arith
+
+element-copy-out-comes-before-4 : tie.Need-element-copy-out-comes-before-4 Inv-loop μ-loop
+unfolding LINKS
+element-copy-out-comes-before-4 c = omega arith
+
+returns : tie.Need-returns Inv-loop μ-loop
+returns c = all-failed _ _ _ (omega arith) (failed (c .before .comes-before .ensures) (c .if1 .taken))
+
+add-i : tie.Need-add-i Inv-loop μ-loop
+unfolding LINKS
+add-i c = omega arith
+
+loop-less : tie.Need-loop-less Inv-loop μ-loop
+unfolding LINKS
+loop-less c = omega arith
+
+loop-again : tie.Need-loop-again Inv-loop μ-loop
+unfolding LINKS
+loop-again c = (omega arith, below-more _ _ (c .before .before .before .before .before .before .before .loop .inv .1) (passed (c .before .comes-before .ensures) (c .if1 .left)))
+
+returns-2 : tie.Need-returns-2 Inv-loop μ-loop
+returns-2 c = all-passed _ _ _ (omega arith) (c .before .loop .inv .1)
+
+pub links-ascend-spec : {M : Type 1} → statement M
+links-ascend-spec = tie.close (tie.spec Inv-loop μ-loop loop-holds add-loop element-copy-out-comes-before element-copy-out-comes-before-2 add-comes-before element-copy-out-comes-before-3 add-comes-before-2 element-copy-out-comes-before-4 (λ c κs. search needs) returns add-i loop-less loop-again returns-2)

@@ -1,0 +1,63 @@
+-- `soundness::same_words` meets its contract. The invariant: the rows passed are the same. Assumes nothing.
+use mathlib.Core.Path.{_≡_}
+use mathlib.Core.Bool.{true}
+use Prim.Native.Nat.{ℕ, _-_, _<_, _≤_}
+use native.Mathlib.Omega.{arith}
+use lib.ListN.{getD}
+use lib.Dec.{eqb}
+use borrow.Author.Tests.{eq-eqb, ne-eqb}
+use borrow.Author.Count.{below-more}
+use Rattle.model.specs.Limits.{ROWS}
+use Rattle.model.specs.SoundTest.{sameTest}
+use Rattle.soundness.proofs.Loops.{all-passed, all-failed}
+use borrow.Author.Needs.{needs}
+use Rattle.soundness.proofs.same_words.Statement.{statement}
+use Rattle.soundness.proofs.same_words.Tie as tie
+
+abbrev Inv-loop : tie.InvT-loop
+Inv-loop a b p₀ p = (p ≤ ROWS) × ((j : ℕ) → j < p → eqb (getD a j 0) (getD b j 0) ≡ true)
+
+abbrev μ-loop : tie.MeasureT-loop
+μ-loop a b p₀ p = ROWS - p
+
+loop-holds : tie.Need-loop-holds Inv-loop μ-loop
+loop-holds c = (omega arith, λ j l. absurd (omega arith))
+
+mul-wide16 : tie.Need-mul-wide16 Inv-loop μ-loop
+unfolding ROWS
+mul-wide16 c = omega arith
+
+element-copy-out-wide16 : tie.Need-element-copy-out-wide16 Inv-loop μ-loop
+unfolding ROWS
+element-copy-out-wide16 c = omega arith
+
+mul-wide16-2 : tie.Need-mul-wide16-2 Inv-loop μ-loop
+unfolding ROWS
+mul-wide16-2 c = omega arith
+
+element-copy-out-wide16-2 : tie.Need-element-copy-out-wide16-2 Inv-loop μ-loop
+unfolding ROWS
+element-copy-out-wide16-2 c = omega arith
+
+returns : tie.Need-returns Inv-loop μ-loop
+unfolding sameTest ROWS
+returns c = all-failed _ ROWS _ (c .before .before .before .before .before .loop-test .taken) (ne-eqb _ _ (rw (c .before .before .before .wide16 .ensures, c .before .wide162 .ensures) at (c .if1 .taken)))
+
+add-p : tie.Need-add-p Inv-loop μ-loop
+unfolding ROWS
+add-p c = omega arith
+
+loop-less : tie.Need-loop-less Inv-loop μ-loop
+unfolding ROWS
+loop-less c = omega arith
+
+loop-again : tie.Need-loop-again Inv-loop μ-loop
+unfolding ROWS
+loop-again c = (omega arith, below-more _ _ (c .before .before .before .before .before .before .loop .inv .1) (eq-eqb _ _ (rw (c .before .before .before .wide16 .ensures, c .before .wide162 .ensures) at (c .if1 .left))))
+
+returns-2 : tie.Need-returns-2 Inv-loop μ-loop
+unfolding sameTest ROWS
+returns-2 c = all-passed _ ROWS _ (c .loop-test .left) (c .before .loop .inv .1)
+
+pub same-words-spec : {M : Type 1} → statement M
+same-words-spec = tie.close (tie.spec Inv-loop μ-loop loop-holds mul-wide16 element-copy-out-wide16 (λ c κs. search needs) mul-wide16-2 element-copy-out-wide16-2 (λ c κs. search needs) returns add-p loop-less loop-again returns-2)

@@ -1,0 +1,987 @@
+// The soundness test of a bench, over lent columns of any contents.
+ghost use mathlib.Core.Path.{_≡_};
+ghost use mathlib.Core.List.{[]};
+ghost use Prim.Native.Nat.{_+_, _-_, _<_, _≤_};
+ghost use lib.ListN.{getD};
+ghost use lib.Dec.{eqb};
+ghost use Rattle.model.specs.Limits.{LINKS, ROWS};
+ghost use Rattle.model.specs.Tests.{all};
+ghost use Rattle.model.specs.Table.{parentGood, endsGood, before};
+ghost use Rattle.model.specs.State.{childrenOf, linkedOf};
+ghost use Rattle.model.specs.Requests.{suspendTest};
+ghost use Rattle.model.specs.SoundTest.{columnTest, tableTest, sameTest, parentSupplies, linkSupplies, keptTest, carriedTest, steadyTest, allSteady, othersSteady, noneTest, suspendOpenTest, resumeOpenTest, idleOpenTest, callbackTest, soundTest};
+ghost use Rattle.model.specs.Table.{wired};
+ghost use Rattle.soundness.specs.Lent.{devicesFrom, stateFrom, ofStatus, ofUse, RowOf, rowTest, spareTest, childBit, liveBit, otherSteady, entriesTest, wiringTest, countsTest, devicesTest, clearTest, ownTest};
+use model::DEVICES;
+use model::LINKS;
+use model::NONE;
+use model::ROWS;
+
+const RESUMING: u8 = 1;
+
+const ACTIVE: u8 = 2;
+
+const SUSPENDING: u8 = 3;
+
+// The greatest user holds, disable depth and error.
+const MAXHOLDS: usize = 32767;
+
+const MAXDEPTH: usize = 255;
+
+const MAXERROR: usize = 4095;
+
+fn wide(x: u8) -> usize
+    ensures { λ r. ⌜ r ≡ x ⌝ }
+{
+    x as usize
+}
+
+fn wide16(x: u16) -> usize
+    ensures { λ r. ⌜ r ≡ x ⌝ }
+{
+    x as usize
+}
+
+// The row of a device.
+fn row_of(x: u8) -> usize
+    ensures { λ r. ⌜ RowOf x r ⌝ }
+{
+    x as usize
+}
+
+// Row p of a column with n rows in use: at most `most` where it is used, else 0.
+fn row_good(p: usize, n: usize, most: usize, x: usize) -> bool
+    ensures { λ r. ⌜ r ≡ rowTest n most p x ⌝ }
+{
+    if p < n {
+        return x <= most;
+    }
+    x == 0
+}
+
+// A column of bytes, a row for each device: the n rows in use are at most `most`, and the others are 0.
+fn device_bytes(n: usize, most: usize, col: &[u8; ROWS]) -> bool
+    ensures { λ r. ⌜ r ≡ columnTest ROWS n most (now (col .entry)) ⌝ }
+{
+    let mut p: usize = 0;
+    while p < ROWS {
+        if !row_good(p, n, most, wide(col[p])) {
+            return false;
+        }
+        p += 1;
+    }
+    true
+}
+
+// The same for a column of 16-bit numbers.
+fn device_words(n: usize, most: usize, col: &[u16; ROWS]) -> bool
+    ensures { λ r. ⌜ r ≡ columnTest ROWS n most (now (col .entry)) ⌝ }
+{
+    let mut p: usize = 0;
+    while p < ROWS {
+        if !row_good(p, n, most, wide16(col[p])) {
+            return false;
+        }
+        p += 1;
+    }
+    true
+}
+
+// The same for a column of bytes, a row for each link.
+fn link_bytes(n: usize, most: usize, col: &[u8; LINKS]) -> bool
+    ensures { λ r. ⌜ r ≡ columnTest LINKS n most (now (col .entry)) ⌝ }
+{
+    let mut p: usize = 0;
+    while p < LINKS {
+        if !row_good(p, n, most, wide(col[p])) {
+            return false;
+        }
+        p += 1;
+    }
+    true
+}
+
+// ---- the table
+
+// A parent is none, or lower than the device's own number.
+fn parent_good(p: usize, parent: u8) -> bool
+    ensures { λ r. ⌜ r ≡ parentGood p parent ⌝ }
+{
+    if parent == NONE {
+        return true;
+    }
+    wide(parent) < p
+}
+
+// The parents of n devices are good.
+fn parents_good(n: usize, parent: &[u8; ROWS]) -> bool
+    requires { ⌜ n ≤ ROWS ⌝ }
+    ensures { λ r. ⌜ r ≡ all (λ p. parentGood p (getD (now (parent .entry)) p 0)) n ⌝ }
+{
+    let mut p: usize = 0;
+    while p < n {
+        if !parent_good(p, parent[p]) {
+            return false;
+        }
+        p += 1;
+    }
+    true
+}
+
+// The consumer is one of n devices, and the supplier lower than the consumer.
+fn ends_good(n: usize, consumer: u8, supplier: u8) -> bool
+    ensures { λ r. ⌜ r ≡ endsGood n consumer supplier ⌝ }
+{
+    if n <= wide(consumer) {
+        return false;
+    }
+    supplier < consumer
+}
+
+// The ends of m links are good.
+fn links_fit<'a>(n: usize, m: usize, consumer: &'a [u8; LINKS], supplier: &'a [u8; LINKS]) -> bool
+    requires { ⌜ m ≤ LINKS ⌝ }
+    ensures { λ r. ⌜ r ≡ all (λ i. endsGood n (getD (now (consumer .entry)) i 0) (getD (now (supplier .entry)) i 0)) m ⌝ }
+{
+    let mut i: usize = 0;
+    while i < m {
+        if !ends_good(n, consumer[i], supplier[i]) {
+            return false;
+        }
+        i += 1;
+    }
+    true
+}
+
+// Each of m links comes before the next.
+fn links_ascend<'a>(m: usize, consumer: &'a [u8; LINKS], supplier: &'a [u8; LINKS]) -> bool
+    requires { ⌜ m ≤ LINKS ⌝ }
+    ensures { λ r. ⌜ r ≡ all (λ i. before (getD (now (consumer .entry)) i 0) (getD (now (supplier .entry)) i 0) (getD (now (consumer .entry)) (i + 1) 0) (getD (now (supplier .entry)) (i + 1) 0)) (m - 1) ⌝ }
+{
+    let mut i: usize = 0;
+    while i + 1 < m {
+        if !table::comes_before(consumer[i], supplier[i], consumer[i + 1], supplier[i + 1]) {
+            return false;
+        }
+        i += 1;
+    }
+    true
+}
+
+// The entries keep the rules of a table.
+fn entries_good<'a>(
+    n: usize,
+    m: usize,
+    parent: &'a [u8; ROWS],
+    consumer: &'a [u8; LINKS],
+    supplier: &'a [u8; LINKS],
+) -> bool
+    requires { ⌜ n ≤ ROWS ⌝ }
+    requires { ⌜ m ≤ LINKS ⌝ }
+    ensures { λ r. ⌜ r ≡ entriesTest (wired n m (now (parent .entry)) [] (now (consumer .entry)) (now (supplier .entry)) []) ⌝ }
+{
+    if !parents_good(n, parent) {
+        return false;
+    }
+    if !links_fit(n, m, consumer, supplier) {
+        return false;
+    }
+    links_ascend(m, consumer, supplier)
+}
+
+// The columns of a table are in range, and the entries keep its rules.
+fn wiring_good<'a>(
+    n: usize,
+    m: usize,
+    parent: &'a [u8; ROWS],
+    ignore: &'a [u8; ROWS],
+    consumer: &'a [u8; LINKS],
+    supplier: &'a [u8; LINKS],
+    flags: &'a [u8; LINKS],
+) -> bool
+    requires { ⌜ n ≤ ROWS ⌝ }
+    requires { ⌜ m ≤ LINKS ⌝ }
+    ensures { λ r. ⌜ r ≡ wiringTest (wired n m (now (parent .entry)) (now (ignore .entry)) (now (consumer .entry)) (now (supplier .entry)) (now (flags .entry))) ⌝ }
+{
+    if !device_bytes(n, 255, parent) {
+        return false;
+    }
+    if !device_bytes(n, 1, ignore) {
+        return false;
+    }
+    if !link_bytes(m, 255, consumer) {
+        return false;
+    }
+    if !link_bytes(m, 255, supplier) {
+        return false;
+    }
+    if !link_bytes(m, 3, flags) {
+        return false;
+    }
+    entries_good(n, m, parent, consumer, supplier)
+}
+
+// The columns are those of a table.
+fn table_good<'a>(
+    n: u8,
+    m: u16,
+    parent: &'a [u8; ROWS],
+    ignore: &'a [u8; ROWS],
+    consumer: &'a [u8; LINKS],
+    supplier: &'a [u8; LINKS],
+    flags: &'a [u8; LINKS],
+) -> bool
+    ensures { λ r. ⌜ r ≡ tableTest (wired n m (now (parent .entry)) (now (ignore .entry)) (now (consumer .entry)) (now (supplier .entry)) (now (flags .entry))) ⌝ }
+{
+    if n < 1 {
+        return false;
+    }
+    if DEVICES < n {
+        return false;
+    }
+    let links = m as usize;
+    if LINKS < links {
+        return false;
+    }
+    wiring_good(n as usize, links, parent, ignore, consumer, supplier, flags)
+}
+
+// ---- the counts
+
+// 1 for a powered device that has a parent, else 0.
+fn child_bit(parent: u8, status: u8) -> u16
+    ensures { λ r. ⌜ r ≡ childBit parent status ⌝ }
+{
+    if status < ACTIVE {
+        return 0;
+    }
+    if parent == NONE {
+        return 0;
+    }
+    1
+}
+
+// The child counts, counted anew.
+fn recount_children<'a>(n: usize, parent: &'a [u8; ROWS], status: &'a [u8; ROWS]) -> [u16; ROWS]
+    requires { ⌜ n ≤ ROWS ⌝ }
+    ensures { λ r. ⌜ r ≡ childrenOf (wired n 0 (now (parent .entry)) [] [] [] []) (now (status .entry)) ⌝ }
+{
+    let mut counts = [0u16; ROWS];
+    let mut k: usize = 0;
+    while k < n {
+        let q = row_of(parent[k]);
+        counts[q] = counts[q] + child_bit(parent[k], status[k]);
+        k += 1;
+    }
+    counts
+}
+
+// 1 for a runtime link whose consumer has a powered status, else 0.
+fn live_bit(status: u8, flags: u8) -> u16
+    ensures { λ r. ⌜ r ≡ liveBit status flags ⌝ }
+{
+    if status < ACTIVE {
+        return 0;
+    }
+    if flags % 2 == 0 {
+        return 0;
+    }
+    1
+}
+
+// The counts of runtime links from powered consumers, counted anew.
+fn recount_linked<'a>(
+    m: usize,
+    consumer: &'a [u8; LINKS],
+    supplier: &'a [u8; LINKS],
+    flags: &'a [u8; LINKS],
+    status: &'a [u8; ROWS],
+) -> [u16; ROWS]
+    requires { ⌜ m ≤ LINKS ⌝ }
+    ensures { λ r. ⌜ r ≡ linkedOf (wired 0 m [] [] (now (consumer .entry)) (now (supplier .entry)) (now (flags .entry))) (now (status .entry)) ⌝ }
+{
+    let mut counts = [0u16; ROWS];
+    let mut k: usize = 0;
+    while k < m {
+        let q = row_of(supplier[k]);
+        let p = row_of(consumer[k]);
+        counts[q] = counts[q] + live_bit(status[p], flags[k]);
+        k += 1;
+    }
+    counts
+}
+
+// Two columns are the same: bytes, and 16-bit numbers.
+fn same_bytes<'a>(a: &'a [u8; ROWS], b: &'a [u16; ROWS]) -> bool
+    ensures { λ r. ⌜ r ≡ sameTest (now (a .entry)) (now (b .entry)) ⌝ }
+{
+    let mut p: usize = 0;
+    while p < ROWS {
+        if wide(a[p]) != wide16(b[p]) {
+            return false;
+        }
+        p += 1;
+    }
+    true
+}
+
+// Two columns of 16-bit numbers are the same.
+fn same_words<'a>(a: &'a [u16; ROWS], b: &'a [u16; ROWS]) -> bool
+    ensures { λ r. ⌜ r ≡ sameTest (now (a .entry)) (now (b .entry)) ⌝ }
+{
+    let mut p: usize = 0;
+    while p < ROWS {
+        if wide16(a[p]) != wide16(b[p]) {
+            return false;
+        }
+        p += 1;
+    }
+    true
+}
+
+// ---- the supply rule
+
+// Device p is suspended, or its parent is none, ignores its children or is powered.
+fn parent_supplies<'a>(
+    parent: &'a [u8; ROWS],
+    ignore: &'a [u8; ROWS],
+    status: &'a [u8; ROWS],
+    p: usize,
+) -> bool
+    requires { ⌜ p < ROWS ⌝ }
+    ensures { λ r. ⌜ r ≡ parentSupplies (wired 0 0 (now (parent .entry)) (now (ignore .entry)) [] [] []) (now (status .entry)) p ⌝ }
+{
+    if status[p] < RESUMING {
+        return true;
+    }
+    if parent[p] == NONE {
+        return true;
+    }
+    let q = row_of(parent[p]);
+    if ignore[q] != 0 {
+        return true;
+    }
+    ACTIVE <= status[q]
+}
+
+// The parents of n devices supply them.
+fn parents_supply<'a>(
+    n: usize,
+    parent: &'a [u8; ROWS],
+    ignore: &'a [u8; ROWS],
+    status: &'a [u8; ROWS],
+) -> bool
+    requires { ⌜ n ≤ ROWS ⌝ }
+    ensures { λ r. ⌜ r ≡ all (parentSupplies (wired 0 0 (now (parent .entry)) (now (ignore .entry)) [] [] []) (now (status .entry))) n ⌝ }
+{
+    let mut p: usize = 0;
+    while p < n {
+        if !parent_supplies(parent, ignore, status, p) {
+            return false;
+        }
+        p += 1;
+    }
+    true
+}
+
+// The consumer of link i is suspended, or the link is no runtime link, or its supplier is powered.
+fn link_supplies<'a>(
+    consumer: &'a [u8; LINKS],
+    supplier: &'a [u8; LINKS],
+    flags: &'a [u8; LINKS],
+    status: &'a [u8; ROWS],
+    i: usize,
+) -> bool
+    requires { ⌜ i < LINKS ⌝ }
+    ensures { λ r. ⌜ r ≡ linkSupplies (wired 0 0 [] [] (now (consumer .entry)) (now (supplier .entry)) (now (flags .entry))) (now (status .entry)) i ⌝ }
+{
+    let c = row_of(consumer[i]);
+    if status[c] < RESUMING {
+        return true;
+    }
+    if flags[i] % 2 == 0 {
+        return true;
+    }
+    let s = row_of(supplier[i]);
+    ACTIVE <= status[s]
+}
+
+// The suppliers of m links supply their consumers.
+fn links_supply<'a>(
+    m: usize,
+    consumer: &'a [u8; LINKS],
+    supplier: &'a [u8; LINKS],
+    flags: &'a [u8; LINKS],
+    status: &'a [u8; ROWS],
+) -> bool
+    requires { ⌜ m ≤ LINKS ⌝ }
+    ensures { λ r. ⌜ r ≡ all (linkSupplies (wired 0 0 [] [] (now (consumer .entry)) (now (supplier .entry)) (now (flags .entry))) (now (status .entry))) m ⌝ }
+{
+    let mut i: usize = 0;
+    while i < m {
+        if !link_supplies(consumer, supplier, flags, status, i) {
+            return false;
+        }
+        i += 1;
+    }
+    true
+}
+
+// The counts are the recounts, and what a device rests on is powered.
+fn counts_good<'a>(
+    n: usize,
+    m: usize,
+    parent: &'a [u8; ROWS],
+    ignore: &'a [u8; ROWS],
+    consumer: &'a [u8; LINKS],
+    supplier: &'a [u8; LINKS],
+    flags: &'a [u8; LINKS],
+    status: &'a [u8; ROWS],
+    children: &'a [u8; ROWS],
+    linked: &'a [u16; ROWS],
+) -> bool
+    requires { ⌜ n ≤ ROWS ⌝ }
+    requires { ⌜ m ≤ LINKS ⌝ }
+    ensures { λ r. ⌜ r ≡ countsTest (wired n m (now (parent .entry)) (now (ignore .entry)) (now (consumer .entry)) (now (supplier .entry)) (now (flags .entry))) (devicesFrom (now (status .entry)) [] [] [] (now (children .entry)) (now (linked .entry))) ⌝ }
+{
+    let counts = recount_children(n, parent, status);
+    if !same_bytes(children, &counts) {
+        return false;
+    }
+    let links = recount_linked(m, consumer, supplier, flags, status);
+    if !same_words(linked, &links) {
+        return false;
+    }
+    if !parents_supply(n, parent, ignore, status) {
+        return false;
+    }
+    links_supply(m, consumer, supplier, flags, status)
+}
+
+// The columns of the devices' state are in range, and agree.
+fn devices_good<'a>(
+    n: usize,
+    m: usize,
+    parent: &'a [u8; ROWS],
+    ignore: &'a [u8; ROWS],
+    consumer: &'a [u8; LINKS],
+    supplier: &'a [u8; LINKS],
+    flags: &'a [u8; LINKS],
+    status: &'a [u8; ROWS],
+    holds: &'a [u16; ROWS],
+    depth: &'a [u8; ROWS],
+    error: &'a [u16; ROWS],
+    children: &'a [u8; ROWS],
+    linked: &'a [u16; ROWS],
+) -> bool
+    requires { ⌜ n ≤ ROWS ⌝ }
+    requires { ⌜ m ≤ LINKS ⌝ }
+    ensures { λ r. ⌜ r ≡ devicesTest (wired n m (now (parent .entry)) (now (ignore .entry)) (now (consumer .entry)) (now (supplier .entry)) (now (flags .entry))) (devicesFrom (now (status .entry)) (now (holds .entry)) (now (depth .entry)) (now (error .entry)) (now (children .entry)) (now (linked .entry))) ⌝ }
+{
+    if !device_bytes(n, 3, status) {
+        return false;
+    }
+    if !device_words(n, MAXHOLDS, holds) {
+        return false;
+    }
+    if !device_bytes(n, MAXDEPTH, depth) {
+        return false;
+    }
+    if !device_words(n, MAXERROR, error) {
+        return false;
+    }
+    counts_good(
+        n,
+        m,
+        parent,
+        ignore,
+        consumer,
+        supplier,
+        flags,
+        status,
+        children,
+        linked,
+    )
+}
+
+// All but the open callback and the carried bytes.
+fn kept_good<'a>(
+    n: u8,
+    m: u16,
+    parent: &'a [u8; ROWS],
+    ignore: &'a [u8; ROWS],
+    consumer: &'a [u8; LINKS],
+    supplier: &'a [u8; LINKS],
+    flags: &'a [u8; LINKS],
+    status: &'a [u8; ROWS],
+    holds: &'a [u16; ROWS],
+    depth: &'a [u8; ROWS],
+    error: &'a [u16; ROWS],
+    children: &'a [u8; ROWS],
+    linked: &'a [u16; ROWS],
+) -> bool
+    ensures { λ r. ⌜ r ≡ keptTest (wired n m (now (parent .entry)) (now (ignore .entry)) (now (consumer .entry)) (now (supplier .entry)) (now (flags .entry))) (devicesFrom (now (status .entry)) (now (holds .entry)) (now (depth .entry)) (now (error .entry)) (now (children .entry)) (now (linked .entry))) ⌝ }
+{
+    if !table_good(n, m, parent, ignore, consumer, supplier, flags) {
+        return false;
+    }
+    devices_good(
+        n as usize,
+        m as usize,
+        parent,
+        ignore,
+        consumer,
+        supplier,
+        flags,
+        status,
+        holds,
+        depth,
+        error,
+        children,
+        linked,
+    )
+}
+
+// ---- the carried bytes
+
+// A carried byte is 0 where it is not used.
+fn spare_good(used: usize, i: usize, x: u8) -> bool
+    ensures { λ r. ⌜ r ≡ spareTest used i x ⌝ }
+{
+    if i < used {
+        return true;
+    }
+    x == 0
+}
+
+// At most three bytes are carried, and those not used are 0.
+fn carried_good(carried: &[u8; 3], used: usize) -> bool
+    ensures { λ r. ⌜ r ≡ carriedTest (record { bytes = (now (carried .entry)); used = used }) ⌝ }
+{
+    if 3 < used {
+        return false;
+    }
+    let mut i: usize = 0;
+    while i < 3 {
+        if !spare_good(used, i, carried[i]) {
+            return false;
+        }
+        i += 1;
+    }
+    true
+}
+
+// ---- the open callback
+
+// Device p is not in change.
+fn steady(status: &[u8; ROWS], p: usize) -> bool
+    requires { ⌜ p < ROWS ⌝ }
+    ensures { λ r. ⌜ r ≡ steadyTest (ofStatus 0 (now (status .entry))) p ⌝ }
+{
+    if status[p] == RESUMING {
+        return false;
+    }
+    status[p] != SUSPENDING
+}
+
+// No device is in change.
+fn all_steady(n: usize, status: &[u8; ROWS]) -> bool
+    requires { ⌜ n ≤ ROWS ⌝ }
+    ensures { λ r. ⌜ r ≡ allSteady (ofStatus n (now (status .entry))) ⌝ }
+{
+    let mut q: usize = 0;
+    while q < n {
+        if !steady(status, q) {
+            return false;
+        }
+        q += 1;
+    }
+    true
+}
+
+// Device q is p, or not in change.
+fn other_steady(status: &[u8; ROWS], q: usize, p: usize) -> bool
+    requires { ⌜ q < ROWS ⌝ }
+    ensures { λ r. ⌜ r ≡ otherSteady (now (status .entry)) p q ⌝ }
+{
+    if q == p {
+        return true;
+    }
+    steady(status, q)
+}
+
+// No device but p is in change.
+fn others_steady(n: usize, status: &[u8; ROWS], p: usize) -> bool
+    requires { ⌜ n ≤ ROWS ⌝ }
+    ensures { λ r. ⌜ r ≡ othersSteady (ofStatus n (now (status .entry))) p ⌝ }
+{
+    let mut q: usize = 0;
+    while q < n {
+        if !other_steady(status, q, p) {
+            return false;
+        }
+        q += 1;
+    }
+    true
+}
+
+// Device p passes the suspend test.
+fn may_suspend<'a>(
+    ignore: &'a [u8; ROWS],
+    holds: &'a [u16; ROWS],
+    depth: &'a [u8; ROWS],
+    error: &'a [u16; ROWS],
+    children: &'a [u8; ROWS],
+    linked: &'a [u16; ROWS],
+    p: usize,
+) -> bool
+    requires { ⌜ p < ROWS ⌝ }
+    ensures { λ r. ⌜ r ≡ eqb (suspendTest (ofUse (now (ignore .entry)) (now (holds .entry)) (now (depth .entry)) (now (error .entry)) (now (children .entry)) (now (linked .entry))) p) 0 ⌝ }
+{
+    if 0 < error[p] {
+        return false;
+    }
+    if 0 < depth[p] {
+        return false;
+    }
+    if 0 < holds[p] {
+        return false;
+    }
+    if 0 < linked[p] {
+        return false;
+    }
+    if 0 < children[p] {
+        if ignore[p] == 0 {
+            return false;
+        }
+    }
+    true
+}
+
+// Device q is not marked, or not barred.
+fn clear<'a>(
+    marks: &'a [bool; ROWS],
+    depth: &'a [u8; ROWS],
+    error: &'a [u16; ROWS],
+    q: usize,
+) -> bool
+    requires { ⌜ q < ROWS ⌝ }
+    ensures { λ r. ⌜ r ≡ clearTest (now (marks .entry)) (now (depth .entry)) (now (error .entry)) q ⌝ }
+{
+    if marks[q] {
+        if 0 < error[q] {
+            return false;
+        }
+        if 0 < depth[q] {
+            return false;
+        }
+    }
+    true
+}
+
+// No marked device below n is barred.
+fn members_clear<'a>(
+    n: usize,
+    marks: &'a [bool; ROWS],
+    depth: &'a [u8; ROWS],
+    error: &'a [u16; ROWS],
+) -> bool
+    requires { ⌜ n ≤ ROWS ⌝ }
+    ensures { λ r. ⌜ r ≡ all (clearTest (now (marks .entry)) (now (depth .entry)) (now (error .entry))) n ⌝ }
+{
+    let mut q: usize = 0;
+    while q < n {
+        if !clear(marks, depth, error, q) {
+            return false;
+        }
+        q += 1;
+    }
+    true
+}
+
+// No callback is open.
+fn none_open(n: usize, status: &[u8; ROWS], asked: u8, target: u8) -> bool
+    requires { ⌜ n ≤ ROWS ⌝ }
+    ensures { λ r. ⌜ r ≡ noneTest (stateFrom n 0 [] [] [] [] [] (now (status .entry)) [] [] [] [] [] 0 asked target [] 0) ⌝ }
+{
+    if asked != 0 {
+        return false;
+    }
+    if target != 0 {
+        return false;
+    }
+    all_steady(n, status)
+}
+
+// A suspend callback of the device asked is open.
+fn suspend_open<'a>(
+    n: u8,
+    ignore: &'a [u8; ROWS],
+    status: &'a [u8; ROWS],
+    holds: &'a [u16; ROWS],
+    depth: &'a [u8; ROWS],
+    error: &'a [u16; ROWS],
+    children: &'a [u8; ROWS],
+    linked: &'a [u16; ROWS],
+    asked: u8,
+    target: u8,
+) -> bool
+    ensures { λ r. ⌜ r ≡ suspendOpenTest (stateFrom n 0 [] (now (ignore .entry)) [] [] [] (now (status .entry)) (now (holds .entry)) (now (depth .entry)) (now (error .entry)) (now (children .entry)) (now (linked .entry)) 0 0 target [] 0) asked ⌝ }
+{
+    if n <= asked {
+        return false;
+    }
+    if target != asked {
+        return false;
+    }
+    let p = row_of(asked);
+    if status[p] != SUSPENDING {
+        return false;
+    }
+    if !others_steady(n as usize, status, p) {
+        return false;
+    }
+    may_suspend(ignore, holds, depth, error, children, linked, p)
+}
+
+// An idle callback of the device asked is open.
+fn idle_open<'a>(
+    n: u8,
+    ignore: &'a [u8; ROWS],
+    status: &'a [u8; ROWS],
+    holds: &'a [u16; ROWS],
+    depth: &'a [u8; ROWS],
+    error: &'a [u16; ROWS],
+    children: &'a [u8; ROWS],
+    linked: &'a [u16; ROWS],
+    asked: u8,
+    target: u8,
+) -> bool
+    ensures { λ r. ⌜ r ≡ idleOpenTest (stateFrom n 0 [] (now (ignore .entry)) [] [] [] (now (status .entry)) (now (holds .entry)) (now (depth .entry)) (now (error .entry)) (now (children .entry)) (now (linked .entry)) 0 0 target [] 0) asked ⌝ }
+{
+    if n <= asked {
+        return false;
+    }
+    if target != asked {
+        return false;
+    }
+    let p = row_of(asked);
+    if status[p] != ACTIVE {
+        return false;
+    }
+    if !all_steady(n as usize, status) {
+        return false;
+    }
+    may_suspend(ignore, holds, depth, error, children, linked, p)
+}
+
+// A resume callback of the device asked is open: it is the lowest of the wake set of the target, where nothing is barred.
+fn resume_open<'a>(
+    n: u8,
+    m: u16,
+    parent: &'a [u8; ROWS],
+    ignore: &'a [u8; ROWS],
+    consumer: &'a [u8; LINKS],
+    supplier: &'a [u8; LINKS],
+    flags: &'a [u8; LINKS],
+    status: &'a [u8; ROWS],
+    depth: &'a [u8; ROWS],
+    error: &'a [u16; ROWS],
+    asked: u8,
+    target: u8,
+) -> bool
+    requires { ⌜ m ≤ LINKS ⌝ }
+    ensures { λ r. ⌜ r ≡ resumeOpenTest (stateFrom n m (now (parent .entry)) (now (ignore .entry)) (now (consumer .entry)) (now (supplier .entry)) (now (flags .entry)) (now (status .entry)) [] (now (depth .entry)) (now (error .entry)) [] [] 0 0 0 [] 0) asked target ⌝ }
+{
+    if n <= target {
+        return false;
+    }
+    let marks = wakeset::wake_set(
+        parent,
+        ignore,
+        status,
+        consumer,
+        supplier,
+        flags,
+        n,
+        m,
+        target,
+    );
+    if wakeset::lowest(marks, n) != asked {
+        return false;
+    }
+    let p = row_of(asked);
+    if status[p] != RESUMING {
+        return false;
+    }
+    if !others_steady(n as usize, status, p) {
+        return false;
+    }
+    members_clear(n as usize, &marks, depth, error)
+}
+
+// No callback is open, or a suspend or an idle callback.
+fn own_open<'a>(
+    n: u8,
+    ignore: &'a [u8; ROWS],
+    status: &'a [u8; ROWS],
+    holds: &'a [u16; ROWS],
+    depth: &'a [u8; ROWS],
+    error: &'a [u16; ROWS],
+    children: &'a [u8; ROWS],
+    linked: &'a [u16; ROWS],
+    callback: u8,
+    asked: u8,
+    target: u8,
+) -> bool
+    ensures { λ r. ⌜ r ≡ ownTest (stateFrom n 0 [] (now (ignore .entry)) [] [] [] (now (status .entry)) (now (holds .entry)) (now (depth .entry)) (now (error .entry)) (now (children .entry)) (now (linked .entry)) callback asked target [] 0) ⌝ }
+{
+    if callback == 0 {
+        return none_open(n as usize, status, asked, target);
+    }
+    if callback == 1 {
+        return suspend_open(
+            n,
+            ignore,
+            status,
+            holds,
+            depth,
+            error,
+            children,
+            linked,
+            asked,
+            target,
+        );
+    }
+    if callback == 3 {
+        return idle_open(
+            n,
+            ignore,
+            status,
+            holds,
+            depth,
+            error,
+            children,
+            linked,
+            asked,
+            target,
+        );
+    }
+    false
+}
+
+// The open callback agrees with the devices.
+fn callback_good<'a>(
+    n: u8,
+    m: u16,
+    parent: &'a [u8; ROWS],
+    ignore: &'a [u8; ROWS],
+    consumer: &'a [u8; LINKS],
+    supplier: &'a [u8; LINKS],
+    flags: &'a [u8; LINKS],
+    status: &'a [u8; ROWS],
+    holds: &'a [u16; ROWS],
+    depth: &'a [u8; ROWS],
+    error: &'a [u16; ROWS],
+    children: &'a [u8; ROWS],
+    linked: &'a [u16; ROWS],
+    callback: u8,
+    asked: u8,
+    target: u8,
+) -> bool
+    requires { ⌜ m ≤ LINKS ⌝ }
+    ensures { λ r. ⌜ r ≡ callbackTest (stateFrom n m (now (parent .entry)) (now (ignore .entry)) (now (consumer .entry)) (now (supplier .entry)) (now (flags .entry)) (now (status .entry)) (now (holds .entry)) (now (depth .entry)) (now (error .entry)) (now (children .entry)) (now (linked .entry)) callback asked target [] 0) ⌝ }
+{
+    if callback == 2 {
+        return resume_open(
+            n,
+            m,
+            parent,
+            ignore,
+            consumer,
+            supplier,
+            flags,
+            status,
+            depth,
+            error,
+            asked,
+            target,
+        );
+    }
+    own_open(
+        n,
+        ignore,
+        status,
+        holds,
+        depth,
+        error,
+        children,
+        linked,
+        callback,
+        asked,
+        target,
+    )
+}
+
+// The bench is sound.
+pub fn sound<'a>(
+    n: u8,
+    m: u16,
+    parent: &'a [u8; ROWS],
+    ignore: &'a [u8; ROWS],
+    consumer: &'a [u8; LINKS],
+    supplier: &'a [u8; LINKS],
+    flags: &'a [u8; LINKS],
+    status: &'a [u8; ROWS],
+    holds: &'a [u16; ROWS],
+    depth: &'a [u8; ROWS],
+    error: &'a [u16; ROWS],
+    children: &'a [u8; ROWS],
+    linked: &'a [u16; ROWS],
+    callback: u8,
+    asked: u8,
+    target: u8,
+    carried: &'a [u8; 3],
+    used: u8,
+) -> bool
+    ensures { λ r. ⌜ r ≡ soundTest (stateFrom n m (now (parent .entry)) (now (ignore .entry)) (now (consumer .entry)) (now (supplier .entry)) (now (flags .entry)) (now (status .entry)) (now (holds .entry)) (now (depth .entry)) (now (error .entry)) (now (children .entry)) (now (linked .entry)) callback asked target (now (carried .entry)) used) ⌝ }
+{
+    if !kept_good(
+        n,
+        m,
+        parent,
+        ignore,
+        consumer,
+        supplier,
+        flags,
+        status,
+        holds,
+        depth,
+        error,
+        children,
+        linked,
+    ) {
+        return false;
+    }
+    if !carried_good(carried, used as usize) {
+        return false;
+    }
+    callback_good(
+        n,
+        m,
+        parent,
+        ignore,
+        consumer,
+        supplier,
+        flags,
+        status,
+        holds,
+        depth,
+        error,
+        children,
+        linked,
+        callback,
+        asked,
+        target,
+    )
+}
