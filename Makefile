@@ -1,3 +1,4 @@
+# make day       the library on the shipped tables, proved, built and run
 # make test      the gate: every check, ending with the toolchain's verdict
 # make sample    the definitions against the second implementation; SEED and COUNT choose the cases
 # make compare   the proved code against the second implementation; SEED, TABLES and BENCHES choose the cases
@@ -6,8 +7,12 @@ COUNT ?= 100
 TABLES ?= 100000
 BENCHES ?= 2000
 
-.PHONY: test listed second sample compare
+.PHONY: day test listed second sample compare
 .NOTPARALLEL:
+
+day:
+	rt check day
+	target/bin/day
 
 test: listed second sample compare
 	rt ci

@@ -5,7 +5,7 @@ ghost use Prim.Native.Nat.{_+_, _-_, _<_, _≤_};
 ghost use lib.ListN.{getD};
 ghost use lib.Dec.{eqb};
 ghost use Rattle.model.specs.Limits.{LINKS, ROWS};
-ghost use Rattle.model.specs.Tests.{all};
+ghost use Rattle.model.specs.Tests.{all, _and_};
 ghost use Rattle.model.specs.Table.{parentGood, endsGood, before};
 ghost use Rattle.model.specs.State.{childrenOf, linkedOf};
 ghost use Rattle.model.specs.Requests.{suspendTest};
@@ -49,6 +49,13 @@ fn row_of(x: u8) -> usize
     x as usize
 }
 
+// Both hold. The loops over whole columns go through every row and join the tests, so that a compiler can take several rows at once.
+fn both(a: bool, b: bool) -> bool
+    ensures { λ r. ⌜ r ≡ (a and b) ⌝ }
+{
+    if a { b } else { false }
+}
+
 // Row p of a column with n rows in use: at most `most` where it is used, else 0.
 fn row_good(p: usize, n: usize, most: usize, x: usize) -> bool
     ensures { λ r. ⌜ r ≡ rowTest n most p x ⌝ }
@@ -63,42 +70,39 @@ fn row_good(p: usize, n: usize, most: usize, x: usize) -> bool
 fn device_bytes(n: usize, most: usize, col: &[u8; ROWS]) -> bool
     ensures { λ r. ⌜ r ≡ columnTest ROWS n most (now (col .entry)) ⌝ }
 {
+    let mut good = true;
     let mut p: usize = 0;
     while p < ROWS {
-        if !row_good(p, n, most, wide(col[p])) {
-            return false;
-        }
+        good = both(row_good(p, n, most, wide(col[p])), good);
         p += 1;
     }
-    true
+    good
 }
 
 // The same for a column of 16-bit numbers.
 fn device_words(n: usize, most: usize, col: &[u16; ROWS]) -> bool
     ensures { λ r. ⌜ r ≡ columnTest ROWS n most (now (col .entry)) ⌝ }
 {
+    let mut good = true;
     let mut p: usize = 0;
     while p < ROWS {
-        if !row_good(p, n, most, wide16(col[p])) {
-            return false;
-        }
+        good = both(row_good(p, n, most, wide16(col[p])), good);
         p += 1;
     }
-    true
+    good
 }
 
 // The same for a column of bytes, a row for each link.
 fn link_bytes(n: usize, most: usize, col: &[u8; LINKS]) -> bool
     ensures { λ r. ⌜ r ≡ columnTest LINKS n most (now (col .entry)) ⌝ }
 {
+    let mut good = true;
     let mut p: usize = 0;
     while p < LINKS {
-        if !row_good(p, n, most, wide(col[p])) {
-            return false;
-        }
+        good = both(row_good(p, n, most, wide(col[p])), good);
         p += 1;
     }
-    true
+    good
 }
 
 // ---- the table
@@ -315,28 +319,26 @@ fn recount_linked<'a>(
 fn same_bytes<'a>(a: &'a [u8; ROWS], b: &'a [u16; ROWS]) -> bool
     ensures { λ r. ⌜ r ≡ sameTest (now (a .entry)) (now (b .entry)) ⌝ }
 {
+    let mut good = true;
     let mut p: usize = 0;
     while p < ROWS {
-        if wide(a[p]) != wide16(b[p]) {
-            return false;
-        }
+        good = both(wide(a[p]) == wide16(b[p]), good);
         p += 1;
     }
-    true
+    good
 }
 
 // Two columns of 16-bit numbers are the same.
 fn same_words<'a>(a: &'a [u16; ROWS], b: &'a [u16; ROWS]) -> bool
     ensures { λ r. ⌜ r ≡ sameTest (now (a .entry)) (now (b .entry)) ⌝ }
 {
+    let mut good = true;
     let mut p: usize = 0;
     while p < ROWS {
-        if wide16(a[p]) != wide16(b[p]) {
-            return false;
-        }
+        good = both(wide16(a[p]) == wide16(b[p]), good);
         p += 1;
     }
-    true
+    good
 }
 
 // ---- the supply rule

@@ -32,12 +32,17 @@ pub fn compare(seed: u64, count: u64) -> Result<String, String> {
     ))
 }
 
-/// The deepest wake set: 64 devices in one chain of parents, with two suppliers for each. It is found within a stack of 1 MB.
+/// The deepest wake set: 64 devices in one chain of parents, with 128 runtime
+/// links down the chain. It is found within a stack of 1 MB.
 fn deepest() -> Result<(), String> {
-    let mut table = b"TWB\x01\x00\x40\x7d\xff\x00".to_vec();
+    let mut table = b"TWB\x01\x00\x40\x80\xff\x00".to_vec();
     table.extend((1..64).flat_map(|p: u8| [p - 1, 0]));
-    table.extend([1, 0, 1]);
-    table.extend((2..64).flat_map(|p: u8| [p, p - 2, 1, p, p - 1, 1]));
+    let steps = |p: u8| {
+        (1..=if p < 6 { 3 } else { 2 })
+            .rev()
+            .filter(move |&step| step <= p)
+    };
+    table.extend((0..64).flat_map(|p: u8| steps(p).flat_map(move |step| [p, p - step, 1])));
     let bench = second::load(&table).map_err(|refusal| format!("refused {}", refusal.number))?;
     let asked = std::thread::Builder::new()
         .stack_size(1 << 20)

@@ -1,27 +1,26 @@
--- `soundness::device_words` meets its contract. The invariant: the rows passed are good. Assumes nothing.
-use mathlib.Core.Path.{_≡_}
-use mathlib.Core.Bool.{true}
-use Prim.Native.Nat.{ℕ, _-_, _<_, _≤_}
+-- `soundness::device_words` meets its contract. The invariant: `good` is the test of the rows passed. Assumes nothing.
+use mathlib.Core.Path.{_≡_, refl}
+use Prim.Native.Nat.{_-_, _≤_}
 use native.Mathlib.Omega.{arith}
 use lib.ListN.{getD}
-use borrow.Author.Count.{below-more}
 use Rattle.model.specs.Limits.{ROWS}
+use Rattle.model.specs.Tests.{all}
 use Rattle.model.specs.SoundTest.{columnTest}
 use Rattle.soundness.specs.Lent.{rowTest}
-use Rattle.soundness.proofs.Chains.{passed, failed}
-use Rattle.soundness.proofs.Loops.{all-passed, all-failed}
+use Rattle.soundness.proofs.Loops.{all-next, all-done}
 use borrow.Author.Needs.{needs}
 use Rattle.soundness.proofs.device_words.Statement.{statement}
 use Rattle.soundness.proofs.device_words.Tie as tie
 
 abbrev Inv-loop : tie.InvT-loop
-Inv-loop n most col p₀ p = (p ≤ ROWS) × ((j : ℕ) → j < p → rowTest n most j (getD col j 0) ≡ true)
+Inv-loop n most col good₀ p₀ good p = (p ≤ ROWS) × (good ≡ all (λ j. rowTest n most j (getD col j 0)) p)
 
 abbrev μ-loop : tie.MeasureT-loop
-μ-loop n most col p₀ p = ROWS - p
+μ-loop n most col good₀ p₀ good p = ROWS - p
 
 loop-holds : tie.Need-loop-holds Inv-loop μ-loop
-loop-holds c = (omega arith, λ j l. absurd (omega arith))
+unfolding all
+loop-holds c = (omega arith, refl)
 
 mul-wide16 : tie.Need-mul-wide16 Inv-loop μ-loop
 unfolding ROWS
@@ -30,10 +29,6 @@ mul-wide16 c = omega arith
 element-copy-out-wide16 : tie.Need-element-copy-out-wide16 Inv-loop μ-loop
 unfolding ROWS
 element-copy-out-wide16 c = omega arith
-
-returns : tie.Need-returns Inv-loop μ-loop
-unfolding columnTest rowTest ROWS
-returns c = all-failed _ ROWS _ (c .before .before .before .before .loop-test .taken) (failed (rw (c .before .before .wide16 .ensures) at (c .before .row-good .ensures)) (c .if1 .taken))
 
 add-p : tie.Need-add-p Inv-loop μ-loop
 unfolding ROWS
@@ -45,11 +40,11 @@ loop-less c = omega arith
 
 loop-again : tie.Need-loop-again Inv-loop μ-loop
 unfolding ROWS
-loop-again c = (omega arith, below-more _ _ (c .before .before .before .before .before .loop .inv .1) (passed (rw (c .before .before .wide16 .ensures) at (c .before .row-good .ensures)) (c .if1 .left)))
+loop-again c = (omega arith, all-next _ _ (rw (c .before .before .wide16 .ensures) at (c .before .row-good .ensures)) (c .before .before .before .before .before .loop .inv .1) (c .both .ensures))
 
-returns-2 : tie.Need-returns-2 Inv-loop μ-loop
+returns : tie.Need-returns Inv-loop μ-loop
 unfolding columnTest rowTest ROWS
-returns-2 c = all-passed _ ROWS _ (c .loop-test .left) (c .before .loop .inv .1)
+returns c = all-done _ ROWS _ (c .before .loop .inv .0) (c .loop-test .left) (c .before .loop .inv .1)
 
 pub device-words-spec : {M : Type 1} → statement M
-device-words-spec = tie.close (tie.spec Inv-loop μ-loop loop-holds mul-wide16 element-copy-out-wide16 (λ c κs. search needs) (λ c κs. search needs) returns add-p loop-less loop-again returns-2)
+device-words-spec = tie.close (tie.spec Inv-loop μ-loop loop-holds mul-wide16 element-copy-out-wide16 (λ c κs. search needs) (λ c κs. search needs) (λ c κs. search needs) add-p loop-less loop-again returns)

@@ -1,35 +1,30 @@
--- `soundness::link_bytes` meets its contract. The invariant: the rows passed are good. Assumes nothing.
-use mathlib.Core.Path.{_≡_}
-use mathlib.Core.Bool.{true}
-use Prim.Native.Nat.{ℕ, _-_, _<_, _≤_}
+-- `soundness::link_bytes` meets its contract. The invariant: `good` is the test of the rows passed. Assumes nothing.
+use mathlib.Core.Path.{_≡_, refl}
+use Prim.Native.Nat.{_-_, _≤_}
 use native.Mathlib.Omega.{arith}
 use lib.ListN.{getD}
-use borrow.Author.Count.{below-more}
 use Rattle.model.specs.Limits.{LINKS}
+use Rattle.model.specs.Tests.{all}
 use Rattle.model.specs.SoundTest.{columnTest}
 use Rattle.soundness.specs.Lent.{rowTest}
-use Rattle.soundness.proofs.Chains.{passed, failed}
-use Rattle.soundness.proofs.Loops.{all-passed, all-failed}
+use Rattle.soundness.proofs.Loops.{all-next, all-done}
 use borrow.Author.Needs.{needs}
 use Rattle.soundness.proofs.link_bytes.Statement.{statement}
 use Rattle.soundness.proofs.link_bytes.Tie as tie
 
 abbrev Inv-loop : tie.InvT-loop
-Inv-loop n most col p₀ p = (p ≤ LINKS) × ((j : ℕ) → j < p → rowTest n most j (getD col j 0) ≡ true)
+Inv-loop n most col good₀ p₀ good p = (p ≤ LINKS) × (good ≡ all (λ j. rowTest n most j (getD col j 0)) p)
 
 abbrev μ-loop : tie.MeasureT-loop
-μ-loop n most col p₀ p = LINKS - p
+μ-loop n most col good₀ p₀ good p = LINKS - p
 
 loop-holds : tie.Need-loop-holds Inv-loop μ-loop
-loop-holds c = (omega arith, λ j l. absurd (omega arith))
+unfolding all
+loop-holds c = (omega arith, refl)
 
 element-copy-out-wide : tie.Need-element-copy-out-wide Inv-loop μ-loop
 unfolding LINKS
 element-copy-out-wide c = omega arith
-
-returns : tie.Need-returns Inv-loop μ-loop
-unfolding columnTest rowTest LINKS
-returns c = all-failed _ LINKS _ (c .before .before .before .before .loop-test .taken) (failed (rw (c .before .before .wide .ensures) at (c .before .row-good .ensures)) (c .if1 .taken))
 
 add-p : tie.Need-add-p Inv-loop μ-loop
 unfolding LINKS
@@ -41,11 +36,11 @@ loop-less c = omega arith
 
 loop-again : tie.Need-loop-again Inv-loop μ-loop
 unfolding LINKS
-loop-again c = (omega arith, below-more _ _ (c .before .before .before .before .before .loop .inv .1) (passed (rw (c .before .before .wide .ensures) at (c .before .row-good .ensures)) (c .if1 .left)))
+loop-again c = (omega arith, all-next _ _ (rw (c .before .before .wide .ensures) at (c .before .row-good .ensures)) (c .before .before .before .before .before .loop .inv .1) (c .both .ensures))
 
-returns-2 : tie.Need-returns-2 Inv-loop μ-loop
+returns : tie.Need-returns Inv-loop μ-loop
 unfolding columnTest rowTest LINKS
-returns-2 c = all-passed _ LINKS _ (c .loop-test .left) (c .before .loop .inv .1)
+returns c = all-done _ LINKS _ (c .before .loop .inv .0) (c .loop-test .left) (c .before .loop .inv .1)
 
 pub link-bytes-spec : {M : Type 1} → statement M
-link-bytes-spec = tie.close (tie.spec Inv-loop μ-loop loop-holds element-copy-out-wide (λ c κs. search needs) (λ c κs. search needs) returns add-p loop-less loop-again returns-2)
+link-bytes-spec = tie.close (tie.spec Inv-loop μ-loop loop-holds element-copy-out-wide (λ c κs. search needs) (λ c κs. search needs) (λ c κs. search needs) add-p loop-less loop-again returns)
