@@ -1,2 +1,3 @@
 -- The laws of the loops over rows.
 pub mod Rows
+pub mod Packing

@@ -1,3 +1,5 @@
 -- What the proofs of the functions cite.
 pub mod Answers
 pub mod Translations
+pub mod Telling
+pub mod Taking

@@ -4,6 +4,10 @@ ghost use Rattle.model.specs.Limits.{ROWS};
 ghost use Rattle.model.specs.Table.{cell, padded, wiringIn};
 ghost use Rattle.model.specs.State.{loaded, emptyState, loadOf};
 ghost use Rattle.keeper.specs.Translate.{stateOf, loadedOf};
+
+pub mod methods;
+pub mod questions;
+
 use model::LINKS;
 use model::ROWS;
 use table::Answer;

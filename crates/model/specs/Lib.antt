@@ -3,6 +3,7 @@ pub mod Limits
 pub mod Tests
 pub mod Table
 pub mod State
+pub mod Lent
 pub mod WakeSet
 pub mod Records
 pub mod Requests
@@ -11,5 +12,6 @@ pub mod Sound
 pub mod SoundTest
 pub mod Feed
 pub mod Questions
+pub mod Methods
 pub mod Demand3
 pub mod Day

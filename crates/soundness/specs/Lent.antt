@@ -1,43 +1,22 @@
 -- Lent columns as a state, and the parts of the soundness test that have functions of their own. Assumes nothing.
 use mathlib.Core.Path.{_≡_}
 use mathlib.Core.Bool.{Bool, false, not}
-use mathlib.Core.List.{List, []}
+use mathlib.Core.List.{List}
 use Prim.Native.Nat.{ℕ, _+_, _-_, _%_, _<_}
 use lib.ListN.{getD}
 use lib.Dec.{ltb, leb, eqb}
 use Rattle.model.specs.Limits.{LINKS, ROWS, NONE, MAXHOLDS, MAXDEPTH, MAXERROR}
 use Rattle.model.specs.Tests.{if_then_else_, _and_, _or_, _implies_, bit, all}
-use Rattle.model.specs.Table.{Wiring, parentGood, endsGood, before}
+use Rattle.model.specs.Table.{Wiring, wired, parentGood, endsGood, before}
 use Rattle.model.specs.State.{State, Devices, SUSPENDING, powered, childrenOf, linkedOf}
 use Rattle.model.specs.WakeSet.{marked}
 use Rattle.model.specs.Requests.{barred}
 use Rattle.model.specs.SoundTest.{columnTest, sameTest, supplyTest, steadyTest, noneTest, suspendOpenTest, idleOpenTest}
-use Rattle.model.specs.Table.{wired}
+use Rattle.model.specs.Lent.{devicesFrom, lent, ofStatus, ofBars}
 
 -- ---- columns as a state
-abbrev pub devicesFrom : (status holds depth error children linked : List ℕ) → Devices
-devicesFrom status holds depth error children linked = record { status = status; holds = holds; depth = depth; error = error; children = children; linked = linked }
-
 abbrev pub stateFrom : (n m : ℕ) (parent ignore consumer supplier flags status holds depth error children linked : List ℕ) (kind asked target : ℕ) (bytes : List ℕ) (used : ℕ) → State
-stateFrom n m parent ignore consumer supplier flags status holds depth error children linked kind asked target bytes used =
-    record {
-      wiring = wired n m parent ignore consumer supplier flags;
-      devices = devicesFrom status holds depth error children linked;
-      callback = record { kind = kind; asked = asked; target = target };
-      carry = record { bytes = bytes; used = used };
-    }
-
--- where only the status of n devices is read
-abbrev pub ofStatus : ℕ → List ℕ → State
-ofStatus n status = stateFrom n 0 [] [] [] [] [] status [] [] [] [] [] 0 0 0 [] 0
-
--- where only what bars a device is read
-abbrev pub ofBars : List ℕ → List ℕ → State
-ofBars depth error = stateFrom 0 0 [] [] [] [] [] [] [] depth error [] [] 0 0 0 [] 0
-
--- what the suspend test reads
-abbrev pub ofUse : (ignore holds depth error children linked : List ℕ) → State
-ofUse ignore holds depth error children linked = stateFrom 0 0 [] ignore [] [] [] [] holds depth error children linked 0 0 0 [] 0
+stateFrom n m parent ignore consumer supplier flags status holds depth error children linked kind asked target bytes used = lent (wired n m parent ignore consumer supplier flags) (devicesFrom status holds depth error children linked) (record { kind = kind; asked = asked; target = target }) (record { bytes = bytes; used = used })
 
 -- ---- one row
 -- r is the row of device x

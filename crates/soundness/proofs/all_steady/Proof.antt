@@ -6,7 +6,7 @@ use native.Mathlib.Omega.{arith}
 use borrow.Author.Count.{below-more}
 use Rattle.model.specs.Limits.{ROWS}
 use Rattle.model.specs.SoundTest.{steadyTest, allSteady}
-use Rattle.soundness.specs.Lent.{ofStatus}
+use Rattle.model.specs.Lent.{ofStatus}
 use Rattle.soundness.proofs.Chains.{passed, failed}
 use Rattle.soundness.proofs.Loops.{all-passed, all-failed}
 use Rattle.soundness.proofs.all_steady.Statement.{statement}

@@ -1,0 +1,218 @@
+// One request or result on a bench: each method hands back a whole new bench by value, and leaves the old one to its caller.
+ghost use mathlib.Core.Path.{_≡_};
+ghost use Rattle.model.specs.Methods.{requested};
+ghost use Rattle.records.specs.Records.{recOf};
+ghost use Rattle.keeper.specs.Translate.{stateOf};
+ghost use Rattle.keeper.specs.Methods.{requestedOf, recordFor};
+use crate::Bench;
+use records::Record;
+use requests::Reply;
+
+// What a request is answered: the bench is not sound (21), or the record's reply.
+pub enum Outcome {
+    Unsound,
+    Replied(Reply),
+}
+
+// The answer to a request, and the bench it leaves.
+pub struct Requested {
+    pub outcome: Outcome,
+    pub bench: Bench,
+}
+
+impl Bench {
+    // One record. A bench that is not sound comes back as it was.
+    fn take(mut self, r: Record) -> Requested
+        ensures { λ o. ⌜ requestedOf o ≡ requested (stateOf self) (recOf r) ⌝ }
+    {
+        if !self.sound() {
+            return Requested {
+                outcome: Outcome::Unsound,
+                bench: self,
+            };
+        }
+        let mut ignore = self.ignore;
+        let mut status = self.status;
+        let mut holds = self.holds;
+        let mut depth = self.depth;
+        let mut error = self.error;
+        let mut children = self.children;
+        let mut linked = self.linked;
+        let out = records::step(
+            &self.parent,
+            &mut ignore,
+            &self.consumer,
+            &self.supplier,
+            &self.flags,
+            self.n,
+            self.m,
+            &mut status,
+            &mut holds,
+            &mut depth,
+            &mut error,
+            &mut children,
+            &mut linked,
+            requests::opened(self.callback, self.asked, self.target),
+            r,
+        );
+        let open = out.callback;
+        let reply = out.reply;
+        self.ignore = ignore;
+        self.status = status;
+        self.holds = holds;
+        self.depth = depth;
+        self.error = error;
+        self.children = children;
+        self.linked = linked;
+        self.callback = requests::kind_of(open);
+        self.asked = requests::asked_of(open);
+        self.target = requests::target_of(open);
+        Requested {
+            outcome: Outcome::Replied(reply),
+            bench: self,
+        }
+    }
+
+    // Kind 1.
+    pub fn enable(mut self, device: u8) -> Requested
+        ensures { λ o. ⌜ requestedOf o ≡ requested (stateOf self) (recordFor 1 device 0) ⌝ }
+    {
+        self.take(Record {
+            kind: 1,
+            device: device,
+            value: 0,
+        })
+    }
+
+    // Kind 2.
+    pub fn disable(mut self, device: u8) -> Requested
+        ensures { λ o. ⌜ requestedOf o ≡ requested (stateOf self) (recordFor 2 device 0) ⌝ }
+    {
+        self.take(Record {
+            kind: 2,
+            device: device,
+            value: 0,
+        })
+    }
+
+    // Kind 3.
+    pub fn get(mut self, device: u8) -> Requested
+        ensures { λ o. ⌜ requestedOf o ≡ requested (stateOf self) (recordFor 3 device 0) ⌝ }
+    {
+        self.take(Record {
+            kind: 3,
+            device: device,
+            value: 0,
+        })
+    }
+
+    // Kind 4: get and wake.
+    pub fn get_wake(mut self, device: u8) -> Requested
+        ensures { λ o. ⌜ requestedOf o ≡ requested (stateOf self) (recordFor 4 device 0) ⌝ }
+    {
+        self.take(Record {
+            kind: 4,
+            device: device,
+            value: 0,
+        })
+    }
+
+    // Kind 5.
+    pub fn put(mut self, device: u8) -> Requested
+        ensures { λ o. ⌜ requestedOf o ≡ requested (stateOf self) (recordFor 5 device 0) ⌝ }
+    {
+        self.take(Record {
+            kind: 5,
+            device: device,
+            value: 0,
+        })
+    }
+
+    // Kind 6: put and idle.
+    pub fn put_idle(mut self, device: u8) -> Requested
+        ensures { λ o. ⌜ requestedOf o ≡ requested (stateOf self) (recordFor 6 device 0) ⌝ }
+    {
+        self.take(Record {
+            kind: 6,
+            device: device,
+            value: 0,
+        })
+    }
+
+    // Kind 7.
+    pub fn idle(mut self, device: u8) -> Requested
+        ensures { λ o. ⌜ requestedOf o ≡ requested (stateOf self) (recordFor 7 device 0) ⌝ }
+    {
+        self.take(Record {
+            kind: 7,
+            device: device,
+            value: 0,
+        })
+    }
+
+    // Kind 8.
+    pub fn suspend(mut self, device: u8) -> Requested
+        ensures { λ o. ⌜ requestedOf o ≡ requested (stateOf self) (recordFor 8 device 0) ⌝ }
+    {
+        self.take(Record {
+            kind: 8,
+            device: device,
+            value: 0,
+        })
+    }
+
+    // Kind 9.
+    pub fn wake(mut self, device: u8) -> Requested
+        ensures { λ o. ⌜ requestedOf o ≡ requested (stateOf self) (recordFor 9 device 0) ⌝ }
+    {
+        self.take(Record {
+            kind: 9,
+            device: device,
+            value: 0,
+        })
+    }
+
+    // Kind 10.
+    pub fn set_active(mut self, device: u8) -> Requested
+        ensures { λ o. ⌜ requestedOf o ≡ requested (stateOf self) (recordFor 10 device 0) ⌝ }
+    {
+        self.take(Record {
+            kind: 10,
+            device: device,
+            value: 0,
+        })
+    }
+
+    // Kind 11.
+    pub fn set_suspended(mut self, device: u8) -> Requested
+        ensures { λ o. ⌜ requestedOf o ≡ requested (stateOf self) (recordFor 11 device 0) ⌝ }
+    {
+        self.take(Record {
+            kind: 11,
+            device: device,
+            value: 0,
+        })
+    }
+
+    // Kind 12, to a value of 0 or 1.
+    pub fn ignore_children(mut self, device: u8, value: u16) -> Requested
+        ensures { λ o. ⌜ requestedOf o ≡ requested (stateOf self) (recordFor 12 device value) ⌝ }
+    {
+        self.take(Record {
+            kind: 12,
+            device: device,
+            value: value,
+        })
+    }
+
+    // Kind 13: the result of the open callback, a value of 0 or less as it stands in a record.
+    pub fn result(mut self, device: u8, value: u16) -> Requested
+        ensures { λ o. ⌜ requestedOf o ≡ requested (stateOf self) (recordFor 13 device value) ⌝ }
+    {
+        self.take(Record {
+            kind: 13,
+            device: device,
+            value: value,
+        })
+    }
+}

@@ -1,0 +1,22 @@
+-- `records::sleeping_request` meets its contract. Assumes nothing.
+use borrow.Author.Tests.{eq-eqb, ne-eqb}
+use Rattle.model.specs.Tests.{if_then_else_}
+use Rattle.records.specs.Records.{sleepingOf}
+use borrow.Author.Needs.{needs}
+use Rattle.records.proofs.sleeping_request.Statement.{statement}
+use Rattle.records.proofs.sleeping_request.Tie as tie
+
+returns : tie.Need-returns
+unfolding sleepingOf if_then_else_
+returns c = λ n f. record { is = λ y. rw (c .before .before .before .before .before .match .keys1) (c .put-idle .ensures n _ _ _ _ _ (f .held) .is y) }
+
+returns-2 : tie.Need-returns-2
+unfolding sleepingOf if_then_else_
+returns-2 c = λ n f. record { is = λ y. rw (c .before .before .before .before .before .match .keys2) (c .idle .ensures n _ _ _ _ _ .is y) }
+
+returns-3 : tie.Need-returns-3
+unfolding sleepingOf if_then_else_
+returns-3 c = λ n f. let h = c .before .before .before .before .before .match .rest in record { is = λ y. rw (ne-eqb _ _ (h .0 .1), ne-eqb _ _ (h .1)) (c .suspend .ensures n (f .known) (f .ready) .is y) }
+
+pub sleeping-request-spec : {M : Type 1} → statement M
+sleeping-request-spec = tie.close (tie.spec (λ c κs. search needs) (λ c κs. search needs) (λ c κs. search needs) returns returns-2 returns-3)

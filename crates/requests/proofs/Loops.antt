@@ -1,0 +1,30 @@
+-- Tests as the code makes them: a loop that returns true at the first number that passes, numbers held against 1, the second of two
+-- tests made first. Assumes nothing.
+use mathlib.Core.Path.{_≡_, refl, sym}
+use mathlib.Core.Bool.{Bool, true, false}
+use Prim.Native.Nat.{ℕ, _<_, _≤_}
+use native.Mathlib.Omega.{arith}
+use lib.Dec.{ltb}
+use borrow.Author.Tests.{le-ltb}
+use Rattle.model.specs.Tests.{_or_, any}
+use Rattle.model.proofs.Basics.{any-of}
+use Rattle.model.proofs.Tests.{any-fails}
+
+pub any-met : (f : ℕ → Bool) (n k : ℕ) → k < n → f k ≡ true → true ≡ any f n
+any-met f n k l e = sym (any-of f n k l e)
+
+pub any-none : (f : ℕ → Bool) (n k : ℕ) → n ≤ k → ((j : ℕ) → j < k → f j ≡ false) → false ≡ any f n
+any-none f n k l h = sym (any-fails f n .1 (λ j b. h j (omega arith)))
+
+pub not-above : (x : ℕ) → x < 1 → ltb 0 x ≡ false
+not-above x l = le-ltb 0 x (omega arith)
+
+pub or-last : (x : Bool) {y : Bool} → y ≡ true → true ≡ x or y
+unfolding _or_
+or-last true e = refl
+or-last false e = sym e
+
+pub or-rest : (x : Bool) {y r : Bool} → y ≡ false → r ≡ x → r ≡ x or y
+unfolding _or_
+or-rest true e h = h
+or-rest false {y} {r} e h = rw e h

@@ -1,0 +1,83 @@
+-- What a transition promises of the columns that it is lent, whatever else the state holds. Assumes nothing.
+use mathlib.Core.Path.{_≡_}
+use mathlib.Core.Bool.{Bool, true, false, not}
+use mathlib.Core.List.{List}
+use Prim.Native.Nat.{ℕ, _<_, _≤_, _%_}
+use lib.ListN.{getD, length}
+use lib.Dec.{ltb, eqb}
+use Rattle.model.specs.Limits.{LINKS, ROWS, NONE, MAXHOLDS, MAXDEPTH, EAGAIN, EBUSY, minus}
+use Rattle.model.specs.Tests.{if_then_else_, _and_, _or_, any}
+use Rattle.model.specs.Table.{Wiring, wired}
+use Rattle.model.specs.State.{State, Devices, Callback, Carry, SUSPENDED, RESUMING, ACTIVE, withStatus, withCallback}
+use Rattle.model.specs.WakeSet.{marked}
+use Rattle.model.specs.Records.{Done, finished, ask}
+use Rattle.model.specs.Requests.{barred, ignoreChildren}
+use Rattle.model.specs.Lent.{devicesFrom, lent, ofBars, withHoldsColumn, withDepthColumn}
+use Rattle.counts.specs.Shifts.{InLine}
+use Rattle.requests.specs.declared.Out.{Out}
+use Rattle.requests.specs.Answers.{doneOf}
+
+-- ---- one column
+-- a request on device p, where only the disable depths change
+pub record OnDepth (request : State → ℕ → Done) (entry exit : List ℕ) (p code : ℕ) : Type 0 where
+  pub is : (s : State) → getD entry p 0 ≤ MAXDEPTH → request (withDepthColumn s entry) p ≡ finished (withDepthColumn s exit) p code
+
+-- where only the user holds change
+pub record OnHolds (request : State → ℕ → Done) (entry exit : List ℕ) (p code : ℕ) : Type 0 where
+  pub is : (s : State) → getD entry p 0 ≤ MAXHOLDS → request (withHoldsColumn s entry) p ≡ finished (withHoldsColumn s exit) p code
+
+-- where only the flag for ignored children changes
+pub record OnIgnore (status children : List ℕ) (p v : ℕ) (entry exit : List ℕ) (code : ℕ) : Type 0 where
+  pub is : (n m : ℕ) (parent consumer supplier flags holds depth error linked : List ℕ) (c : Callback) (y : Carry) → ignoreChildren (lent (wired n m parent entry consumer supplier flags) (devicesFrom status holds depth error children linked) c y) p v ≡ finished (lent (wired n m parent exit consumer supplier flags) (devicesFrom status holds depth error children linked) c y) p code
+
+-- ---- several columns
+-- f, with the callback c open, is answered o and leads from the devices before to those after
+pub record Leads (f : State → Done) (c : Callback) (w : Wiring) (before after : Devices) (o : Out) : Type 0 where
+  pub is : (y : Carry) → f (lent w before c y) ≡ doneOf o (λ c. lent w after c y)
+
+-- what the counts need to follow a change of status; every sound state has it (`ready` in proofs/Turning.antt)
+pub record Ready (w : Wiring) (status childCounts linkCounts : List ℕ) : Type 0 where
+  pub few : w .n ≤ NONE
+  pub links : w .m ≤ LINKS
+  pub rows : length status ≡ ROWS
+  pub counts : InLine w status childCounts linkCounts
+
+-- the same of a transition that may change a status
+abbrev pub Turns : (State → Done) → Callback → Wiring → Devices → Devices → Out → Type 0
+Turns f c w before after o = Ready w (before .status) (before .children) (before .linked) → Leads f c w before after o
+
+-- ---- parts of the model's definitions that have functions of their own
+-- the magnitude of a negative value; 0 for 0
+unfoldable pub magnitude : ℕ → ℕ
+magnitude v = if eqb v 0 then 0 else minus v
+
+-- a suspend callback's result that is not kept as an error
+unfoldable pub passing : ℕ → Bool
+passing v = eqb v (minus EAGAIN) or eqb v (minus EBUSY)
+
+-- the status that a suspend callback's result leads to
+unfoldable pub settled : ℕ → ℕ
+settled v = if eqb v 0 then SUSPENDED else ACTIVE
+
+-- q is marked, is not p, and is barred
+unfoldable pub otherBarred : List Bool → List ℕ → List ℕ → ℕ → ℕ → Bool
+otherBarred marks depth error p q = marked marks q and not (eqb q p) and barred (ofBars depth error) q
+
+unfoldable pub anyBarred : List Bool → List ℕ → List ℕ → ℕ → ℕ → Bool
+anyBarred marks depth error n p = any (otherBarred marks depth error p) n
+
+-- q turns resuming for the wake of t, and its resume callback is asked for
+unfoldable pub resumeOf : State → ℕ → ℕ → Done
+resumeOf s q t = ask (withCallback (withStatus s q RESUMING) 2 q t) 2 q
+
+-- the resume callback of p is open for the wake of t
+abbrev pub askingAt : ℕ → ℕ → Callback
+askingAt p t = record { kind = 2; asked = p; target = t }
+
+-- link i is a runtime link of p, and its supplier is not active
+unfoldable pub linkDown : (consumer supplier flags status : List ℕ) → ℕ → ℕ → Bool
+linkDown consumer supplier flags status p i = eqb (getD consumer i 0) p and eqb (getD flags i 0 % 2) 1 and not (eqb (getD status (getD supplier i 0) 0) ACTIVE)
+
+-- p is not active and has powered children
+unfoldable pub inactiveWithChildren : List ℕ → List ℕ → ℕ → Bool
+inactiveWithChildren status children p = not (eqb (getD status p 0) ACTIVE) and ltb 0 (getD children p 0)
