@@ -1,11 +1,12 @@
 # make day       the library on the shipped tables, proved, built and run
 # make test      the gate: every check, ending with the toolchain's verdict
 # make sample    the definitions against the second implementation; SEED and COUNT choose the cases
-# make compare   the proved code against the second implementation; SEED, TABLES and BENCHES choose the cases
+# make compare   the proved code against the second implementation; SEED, TABLES, BENCHES and RECORDS choose the cases
 SEED ?= 1
 COUNT ?= 100
 TABLES ?= 100000
 BENCHES ?= 2000
+RECORDS ?= 30000
 
 .PHONY: day test listed second sample compare
 .NOTPARALLEL:
@@ -33,3 +34,4 @@ compare:
 	cd tests/compare && cargo build --release --offline --quiet
 	tests/compare/target/release/compare tables $(SEED) $(TABLES)
 	tests/compare/target/release/compare benches $(SEED) $(BENCHES)
+	tests/compare/target/release/compare records $(SEED) $(RECORDS)

@@ -3,3 +3,4 @@ pub mod Answers
 pub mod Translations
 pub mod Telling
 pub mod Taking
+pub mod Meeting

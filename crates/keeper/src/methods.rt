@@ -3,10 +3,16 @@ ghost use mathlib.Core.Path.{_≡_};
 ghost use Rattle.model.specs.Methods.{requested};
 ghost use Rattle.records.specs.Records.{recOf};
 ghost use Rattle.keeper.specs.Translate.{stateOf};
-ghost use Rattle.keeper.specs.Methods.{requestedOf, recordFor};
+ghost use Rattle.keeper.specs.Methods.{requestedOf, recordFor, replyFrom, repliedWith, answerFor, Clear, Meets};
+ghost use Rattle.keeper.specs.declared.methods.Obstacle.the-variants.{Unsound};
+ghost use Rattle.model.specs.Records.{Done, finished};
+ghost use Rattle.requests.specs.Answers.{replyOf};
 use crate::Bench;
+use records::EINPROGRESS;
 use records::Record;
 use requests::Reply;
+use requests::holding;
+use requests::waking;
 
 // What a request is answered: the bench is not sound (21), or the record's reply.
 pub enum Outcome {
@@ -20,8 +26,72 @@ pub struct Requested {
     pub bench: Bench,
 }
 
+// What a request on a device meets before it is looked at: a bench that is not sound (21), an unknown device (12), an open callback
+// (-115), or nothing.
+enum Obstacle {
+    Unsound,
+    Unknown,
+    Busy,
+    Nothing,
+}
+
+fn first_obstacle(b: Bench, device: u8) -> Obstacle
+    ensures { λ r. ⌜ Meets (stateOf b) device r ⌝ }
+{
+    if !b.sound() {
+        return Obstacle::Unsound;
+    }
+    if b.n <= device {
+        return Obstacle::Unknown;
+    }
+    if b.callback != 0 {
+        return Obstacle::Busy;
+    }
+    Obstacle::Nothing
+}
+
+fn replied(b: Bench, reply: Reply) -> Requested
+    ensures { λ o. ⌜ requestedOf o ≡ repliedWith (stateOf b) (replyOf reply) ⌝ }
+{
+    Requested {
+        outcome: Outcome::Replied(reply),
+        bench: b,
+    }
+}
+
+fn reply_of(kind: u8, device: u8, code: u16) -> Reply
+    ensures { λ r. ⌜ replyOf r ≡ replyFrom kind device code ⌝ }
+{
+    Reply {
+        kind: kind,
+        device: device,
+        code: code,
+    }
+}
+
+fn unsound(b: Bench) -> Requested
+    ensures { λ o. ⌜ requestedOf o ≡ answerFor Unsound (stateOf b) 0 (finished (stateOf b) 0 0) ⌝ }
+{
+    Requested {
+        outcome: Outcome::Unsound,
+        bench: b,
+    }
+}
+
+// The bench as it was, with what was met.
+fn turned_away(b: Bench, met: Obstacle, device: u8) -> Requested
+    ensures { λ o. ⌜ ((Clear met → ⊥) → (d : Done) → requestedOf o ≡ answerFor met (stateOf b) device d) ⌝ }
+{
+    match met {
+        Obstacle::Unsound => unsound(b),
+        Obstacle::Unknown => replied(b, reply_of(4, device, 12)),
+        Obstacle::Busy => replied(b, reply_of(0, device, EINPROGRESS)),
+        Obstacle::Nothing => unsound(b),
+    }
+}
+
 impl Bench {
-    // One record. A bench that is not sound comes back as it was.
+    // One record, for the kinds that may change several columns. A bench that is not sound comes back as it was.
     fn take(mut self, r: Record) -> Requested
         ensures { λ o. ⌜ requestedOf o ≡ requested (stateOf self) (recOf r) ⌝ }
     {
@@ -77,33 +147,36 @@ impl Bench {
     pub fn enable(mut self, device: u8) -> Requested
         ensures { λ o. ⌜ requestedOf o ≡ requested (stateOf self) (recordFor 1 device 0) ⌝ }
     {
-        self.take(Record {
-            kind: 1,
-            device: device,
-            value: 0,
-        })
+        let met = first_obstacle(self, device);
+        let Obstacle::Nothing = met else {
+            return turned_away(self, met, device);
+        };
+        let code = holding::enable(&mut self.depth, device);
+        replied(self, reply_of(0, device, code))
     }
 
     // Kind 2.
     pub fn disable(mut self, device: u8) -> Requested
         ensures { λ o. ⌜ requestedOf o ≡ requested (stateOf self) (recordFor 2 device 0) ⌝ }
     {
-        self.take(Record {
-            kind: 2,
-            device: device,
-            value: 0,
-        })
+        let met = first_obstacle(self, device);
+        let Obstacle::Nothing = met else {
+            return turned_away(self, met, device);
+        };
+        let code = holding::disable(&mut self.depth, device);
+        replied(self, reply_of(0, device, code))
     }
 
     // Kind 3.
     pub fn get(mut self, device: u8) -> Requested
         ensures { λ o. ⌜ requestedOf o ≡ requested (stateOf self) (recordFor 3 device 0) ⌝ }
     {
-        self.take(Record {
-            kind: 3,
-            device: device,
-            value: 0,
-        })
+        let met = first_obstacle(self, device);
+        let Obstacle::Nothing = met else {
+            return turned_away(self, met, device);
+        };
+        let code = holding::get(&mut self.holds, device);
+        replied(self, reply_of(0, device, code))
     }
 
     // Kind 4: get and wake.
@@ -121,11 +194,12 @@ impl Bench {
     pub fn put(mut self, device: u8) -> Requested
         ensures { λ o. ⌜ requestedOf o ≡ requested (stateOf self) (recordFor 5 device 0) ⌝ }
     {
-        self.take(Record {
-            kind: 5,
-            device: device,
-            value: 0,
-        })
+        let met = first_obstacle(self, device);
+        let Obstacle::Nothing = met else {
+            return turned_away(self, met, device);
+        };
+        let code = holding::put(&mut self.holds, device);
+        replied(self, reply_of(0, device, code))
     }
 
     // Kind 6: put and idle.
@@ -165,11 +239,37 @@ impl Bench {
     pub fn wake(mut self, device: u8) -> Requested
         ensures { λ o. ⌜ requestedOf o ≡ requested (stateOf self) (recordFor 9 device 0) ⌝ }
     {
-        self.take(Record {
-            kind: 9,
-            device: device,
-            value: 0,
-        })
+        let met = first_obstacle(self, device);
+        let Obstacle::Nothing = met else {
+            return turned_away(self, met, device);
+        };
+        let mut status = self.status;
+        let mut children = self.children;
+        let mut linked = self.linked;
+        let out = waking::wake(
+            &self.parent,
+            &self.ignore,
+            &self.consumer,
+            &self.supplier,
+            &self.flags,
+            self.n,
+            self.m,
+            &mut status,
+            &self.depth,
+            &self.error,
+            &mut children,
+            &mut linked,
+            device,
+        );
+        let next = out.callback;
+        self.status = status;
+        self.children = children;
+        self.linked = linked;
+        self.callback = requests::kind_of(next);
+        self.asked = requests::asked_of(next);
+        self.target = requests::target_of(next);
+        let reply = out.reply;
+        replied(self, reply)
     }
 
     // Kind 10.

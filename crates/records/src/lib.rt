@@ -55,7 +55,7 @@ pub const BOUNDS: [Bounds; KINDS] = [
 ];
 
 // -115 as it stands in a reply.
-const EINPROGRESS: u16 = 65421;
+pub const EINPROGRESS: u16 = 65421;
 
 // A 16-bit number read as signed.
 fn signed(value: u16) -> i16

@@ -31,7 +31,7 @@ fn barred<'a>(depth: &'a [u8; ROWS], error: &'a [u16; ROWS], q: u8) -> bool
     ensures { λ r. ⌜ r ≡ barred (ofBars (now (depth .entry)) (now (error .entry))) q ⌝ }
 {
     let at = row(q);
-    if 0 < error[at] {
+    if error[at] != 0 {
         return true;
     }
     0 < depth[at]
@@ -138,7 +138,7 @@ pub fn wake<'a>(
     if any_barred(&marks, depth, error, n, p) {
         return finished(p, EBUSY);
     }
-    let q = wakeset::lowest(marks, n);
+    let first = wakeset::lowest(marks, n);
     ask_resume(
         parent,
         consumer,
@@ -148,7 +148,7 @@ pub fn wake<'a>(
         status,
         children,
         linked,
-        q,
+        first,
         p,
     )
 }

@@ -54,13 +54,18 @@ fn deepest() -> Result<(), String> {
     }
 }
 
-/// A bench that a random log has led to.
-fn reached(random: &mut Random) -> Bench {
-    let bench = loop {
+/// The bench of a random table.
+pub fn loaded(random: &mut Random) -> Bench {
+    loop {
         if let Ok(bench) = second::load(&tables::of_any_size(random)) {
-            break bench;
+            return bench;
         }
-    };
+    }
+}
+
+/// A bench that a random log has led to.
+pub fn reached(random: &mut Random) -> Bench {
+    let bench = loaded(random);
     let mut tally = Tally::default();
     let mut session = Session::new(bench, &mut tally);
     if random.percent(80) {

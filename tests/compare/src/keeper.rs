@@ -95,6 +95,27 @@ extern "C" {
         p: u8,
         v: u8,
     );
+    fn keeper_step(
+        parent: &DeviceBytes,
+        ignore: &mut DeviceBytes,
+        consumer: &LinkBytes,
+        supplier: &LinkBytes,
+        flags: &LinkBytes,
+        n: u8,
+        m: u16,
+        status: &mut DeviceBytes,
+        holds: &mut Column,
+        depth: &mut DeviceBytes,
+        error: &mut Column,
+        children: &mut DeviceBytes,
+        linked: &mut Column,
+        callback: u8,
+        asked: u8,
+        target: u8,
+        kind: u8,
+        device: u8,
+        value: u16,
+    ) -> u64;
 }
 
 /// The wake set of a device.
@@ -200,4 +221,40 @@ pub fn sound(b: &Bench) -> bool {
             b.count,
         )
     }
+}
+
+/// One record on a bench: its reply. Child counts have a byte here.
+pub fn step(b: &mut Bench, record: [u8; 4]) -> [u8; 4] {
+    let [kind, device, low, high] = record;
+    let mut children = b.children.map(|count| count as u8);
+    // SAFETY: the function reads the columns, writes the seven lent for that and
+    // nothing else.
+    let answer = unsafe {
+        keeper_step(
+            &b.parent,
+            &mut b.ignore,
+            &b.consumer,
+            &b.supplier,
+            &b.flags,
+            b.n,
+            b.m.into(),
+            &mut b.status,
+            &mut b.holds,
+            &mut b.depth,
+            &mut b.error,
+            &mut children,
+            &mut b.linked,
+            b.callback,
+            b.asked,
+            b.target,
+            kind,
+            device,
+            u16::from_le_bytes([low, high]),
+        )
+    };
+    b.children = children.map(u16::from);
+    let [kind, device, low, high, callback, asked, target, rest] = answer.to_le_bytes();
+    assert_eq!(rest, 0, "the answer has seven bytes");
+    (b.callback, b.asked, b.target) = (callback, asked, target);
+    [kind, device, low, high]
 }

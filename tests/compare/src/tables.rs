@@ -7,7 +7,7 @@ use second::{Bench, Refusal};
 use std::fmt;
 
 /// The columns by number.
-const NAMES: [&str; 12] = [
+pub const NAMES: [&str; 12] = [
     "parent", "ignore", "status", "holds", "depth", "error", "children", "linked", "consumer",
     "supplier", "flags", "scalars",
 ];
@@ -118,8 +118,8 @@ fn shown((number, index): (u32, u32)) -> String {
     }
 }
 
-/// A column of the second implementation's bench, by the keeper's number.
-fn expected(bench: &Bench, which: u8) -> Column {
+/// A column of a bench, by the keeper's number.
+pub fn expected(bench: &Bench, which: u8) -> Column {
     match which {
         0 => column(&bench.parent),
         1 => column(&bench.ignore),

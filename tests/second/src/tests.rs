@@ -293,6 +293,306 @@ fn usage_count_passes_16_bits() {
     assert_eq!(bench.user_holds(1), Ok(32_767));
 }
 
+/// The day's table, every device set active and then enabled.
+fn running_bench() -> Bench {
+    let mut bench = day_bench();
+    for device in [0, 1, 2] {
+        finishes(&mut bench, 10, device, 0, 0);
+    }
+    for device in [0, 1, 2] {
+        finishes(&mut bench, 1, device, 0, 0);
+    }
+    bench
+}
+
+#[test]
+fn depths_and_holds_move_by_one() {
+    let mut bench = day_bench();
+    finishes(&mut bench, 2, 1, 0, 0);
+    assert_eq!(bench.depth[..3], [1, 2, 1]);
+    finishes(&mut bench, 1, 1, 0, 0);
+    finishes(&mut bench, 1, 1, 0, 0);
+    assert_eq!(bench.depth[..3], [1, 0, 1]);
+    finishes(&mut bench, 3, 2, 0, 0);
+    finishes(&mut bench, 3, 2, 0, 0);
+    assert_eq!(bench.holds[..3], [0, 0, 2]);
+    finishes(&mut bench, 5, 2, 0, 0);
+    assert_eq!(bench.holds[..3], [0, 0, 1]);
+    bench.depth[0] = 254;
+    finishes(&mut bench, 2, 0, 0, 0);
+    assert_eq!(bench.depth[0], 255);
+}
+
+#[test]
+fn overflow_changes_nothing() {
+    let mut bench = awake_bench();
+    let before = bench.clone();
+    for kind in [1, 5, 6] {
+        finishes(&mut bench, kind, 0, 0, -75);
+        assert_eq!(bench, before);
+    }
+    // Without -75 kind 4 would wake the device.
+    let mut bench = lone_bench();
+    bench.holds[0] = 32_767;
+    let before = bench.clone();
+    for kind in [3, 4] {
+        finishes(&mut bench, kind, 0, 0, -75);
+        assert_eq!(bench, before);
+    }
+    bench.depth[0] = 255;
+    let before = bench.clone();
+    finishes(&mut bench, 2, 0, 0, -75);
+    assert_eq!(bench, before);
+}
+
+#[test]
+fn suspend_test_comes_in_order() {
+    let mut bench = running_bench();
+    (bench.error[0], bench.depth[0], bench.holds[0]) = (5, 1, 1);
+    let each = |bench: &mut Bench, code| {
+        for kind in [7, 8] {
+            finishes(bench, kind, 0, 0, code);
+        }
+    };
+    each(&mut bench, -22);
+    bench.error[0] = 0;
+    each(&mut bench, -11);
+    bench.depth[0] = 0;
+    each(&mut bench, -11);
+    bench.holds[0] = 0;
+    // The converter is the bus's child.
+    each(&mut bench, -16);
+    finishes(&mut bench, 12, 0, 1, 0);
+    assert_eq!(send(&mut bench, 7, 0, 0), [3, 0, 0, 0]);
+    // The converter's link is a use of the reference.
+    let mut bench = running_bench();
+    for kind in [7, 8] {
+        finishes(&mut bench, kind, 1, 0, -11);
+    }
+}
+
+#[test]
+fn a_suspended_device_passes_the_test_first() {
+    let mut bench = lone_bench();
+    finishes(&mut bench, 8, 0, 0, 1);
+    finishes(&mut bench, 7, 0, 0, -11);
+    finishes(&mut bench, 3, 0, 0, 0);
+    finishes(&mut bench, 8, 0, 0, -11);
+    bench.error[0] = 5;
+    finishes(&mut bench, 8, 0, 0, -22);
+}
+
+#[test]
+fn put_and_idle_whatever_the_use_count() {
+    let mut bench = awake_bench();
+    bench.holds[0] = 2;
+    finishes(&mut bench, 6, 0, 0, -11);
+    assert_eq!(bench.holds[0], 1);
+    assert_eq!(send(&mut bench, 6, 0, 0), [3, 0, 0, 0]);
+    assert_eq!((bench.holds[0], bench.status[0]), (0, ACTIVE));
+    let mut bench = awake_bench();
+    (bench.holds[0], bench.error[0]) = (1, 5);
+    finishes(&mut bench, 6, 0, 0, -22);
+    assert_eq!(bench.holds[0], 0);
+    let mut bench = running_bench();
+    bench.holds[0] = 1;
+    finishes(&mut bench, 6, 0, 0, -16);
+    assert_eq!(bench.holds[0], 0);
+}
+
+#[test]
+fn idle_results() {
+    for value in [-1, -5, -11, -16, -75, -4_095] {
+        let mut bench = awake_bench();
+        let before = bench.clone();
+        assert_eq!(send(&mut bench, 7, 0, 0), [3, 0, 0, 0]);
+        finishes(&mut bench, 13, 0, value, value);
+        assert_eq!(bench, before);
+    }
+    let mut bench = awake_bench();
+    send(&mut bench, 7, 0, 0);
+    assert_eq!(send(&mut bench, 13, 0, 0), [1, 0, 0, 0]);
+    assert_eq!(bench.status[0], SUSPENDING);
+    finishes(&mut bench, 13, 0, 0, 0);
+    assert_eq!((bench.status[0], bench.error[0]), (SUSPENDED, 0));
+}
+
+#[test]
+fn any_other_suspend_result_is_an_error() {
+    for value in [-1, -22, -75, -115, -4_095] {
+        let mut bench = awake_bench();
+        send(&mut bench, 8, 0, 0);
+        finishes(&mut bench, 13, 0, value, value);
+        assert_eq!(bench.status[0], ACTIVE);
+        assert_eq!(bench.error[0], value.unsigned_abs());
+    }
+}
+
+#[test]
+fn counts_follow_the_suspend_result() {
+    let mut bench = running_bench();
+    assert_eq!(send(&mut bench, 8, 2, 0), [1, 2, 0, 0]);
+    assert_eq!(bench.status[2], SUSPENDING);
+    assert_eq!((bench.children[0], bench.linked[1]), (1, 1));
+    finishes(&mut bench, 13, 2, 0, 0);
+    assert_eq!(bench.status[2], SUSPENDED);
+    assert_eq!((bench.children[0], bench.linked[1]), (0, 0));
+    // Now the reference may sleep too.
+    assert_eq!(send(&mut bench, 8, 1, 0), [1, 1, 0, 0]);
+}
+
+#[test]
+fn counts_follow_the_resume_result() {
+    let mut bench = day_bench();
+    for (record, reply) in &DAY[..6] {
+        assert_eq!(bench.record(*record), *reply);
+    }
+    assert_eq!(bench.status[..3], [ACTIVE, ACTIVE, RESUMING]);
+    assert_eq!((bench.children[0], bench.linked[1]), (0, 0));
+    finishes(&mut bench, 13, 2, 0, 0);
+    assert_eq!((bench.children[0], bench.linked[1]), (1, 1));
+}
+
+#[test]
+fn the_hold_stays_whatever_follows() {
+    // -22, -11, -16, 1 and a failed callback.
+    let mut bench = day_bench();
+    bench.error[2] = 5;
+    finishes(&mut bench, 4, 2, 0, -22);
+    bench.error[2] = 0;
+    finishes(&mut bench, 4, 2, 0, -11);
+    finishes(&mut bench, 1, 2, 0, 0);
+    finishes(&mut bench, 4, 2, 0, -16);
+    assert_eq!(bench.holds[2], 3);
+    let mut bench = awake_bench();
+    finishes(&mut bench, 4, 0, 0, 1);
+    assert_eq!(bench.holds[0], 1);
+    let mut bench = lone_bench();
+    assert_eq!(send(&mut bench, 4, 0, 0), [2, 0, 0, 0]);
+    finishes(&mut bench, 13, 0, -5, -5);
+    assert_eq!((bench.holds[0], bench.error[0]), (1, 5));
+}
+
+#[test]
+fn another_member_bars_the_wake() {
+    let mut bench = day_bench();
+    for device in [0, 1, 2] {
+        finishes(&mut bench, 1, device, 0, 0);
+    }
+    for member in [0, 1] {
+        bench.depth[member] = 1;
+        finishes(&mut bench, 9, 2, 0, -16);
+        bench.depth[member] = 0;
+        bench.error[member] = 5;
+        finishes(&mut bench, 9, 2, 0, -16);
+        bench.error[member] = 0;
+    }
+    // A powered device is no member.
+    bench.error[0] = 5;
+    finishes(&mut bench, 10, 0, 0, 0);
+    bench.depth[0] = 1;
+    assert_eq!(send(&mut bench, 9, 2, 0), [2, 1, 0, 0]);
+}
+
+#[test]
+fn set_active_and_set_suspended() {
+    let mut bench = day_bench();
+    // The bus sleeps; then the reference does.
+    finishes(&mut bench, 10, 2, 0, -16);
+    finishes(&mut bench, 10, 0, 0, 0);
+    finishes(&mut bench, 10, 2, 0, -16);
+    finishes(&mut bench, 10, 1, 0, 0);
+    finishes(&mut bench, 10, 2, 0, 0);
+    finishes(&mut bench, 11, 0, 0, -16);
+    finishes(&mut bench, 11, 1, 0, -16);
+    finishes(&mut bench, 12, 0, 1, 0);
+    bench.error[0] = 5;
+    finishes(&mut bench, 11, 0, 0, 0);
+    assert_eq!((bench.status[0], bench.error[0]), (SUSPENDED, 0));
+    assert_eq!(bench.children[0], 1);
+    finishes(&mut bench, 12, 0, 0, -16);
+    finishes(&mut bench, 11, 2, 0, 0);
+    finishes(&mut bench, 11, 2, 0, 0);
+    assert_eq!((bench.children[0], bench.linked[1]), (0, 0));
+    finishes(&mut bench, 12, 0, 0, 0);
+    assert_eq!(bench.depth[..3], [1, 1, 1]);
+}
+
+#[test]
+fn a_status_is_set_only_of_a_disabled_or_failed_device() {
+    for kind in [10, 11] {
+        let mut bench = awake_bench();
+        finishes(&mut bench, kind, 0, 0, -11);
+        bench.error[0] = 5;
+        finishes(&mut bench, kind, 0, 0, 0);
+        assert_eq!(bench.error[0], 0);
+        finishes(&mut bench, kind, 0, 0, -11);
+        bench.depth[0] = 1;
+        bench.holds[0] = 1;
+        finishes(&mut bench, kind, 0, 0, 0);
+        assert_eq!((bench.depth[0], bench.holds[0]), (1, 1));
+    }
+}
+
+#[test]
+fn values_at_their_bounds() {
+    for (kind, least, greatest) in (1..=11)
+        .map(|kind| (kind, 0, 0))
+        .chain([(12, 0, 1), (13, -4_095, 0)])
+    {
+        for value in [least - 1, greatest + 1, i16::MIN, i16::MAX] {
+            let mut bench = lone_bench();
+            assert_eq!(send(&mut bench, kind, 0, value), [REFUSED, 0, 13, 0]);
+        }
+        for value in [least, greatest] {
+            let mut bench = lone_bench();
+            let [reply, _, code, _] = send(&mut bench, kind, 0, value);
+            // With none open a result is refused all the same.
+            assert_eq!((reply == REFUSED, code == 14), (kind == 13, kind == 13));
+        }
+    }
+}
+
+#[test]
+fn a_result_of_the_target_is_not_that_of_the_device_asked() {
+    let mut bench = day_bench();
+    for (record, _) in &DAY[..4] {
+        bench.record(*record);
+    }
+    assert_eq!((bench.asked, bench.target), (0, 2));
+    let before = bench.clone();
+    for device in [1, 2] {
+        assert_eq!(send(&mut bench, 13, device, 0), [REFUSED, device, 15, 0]);
+        assert_eq!(bench, before);
+    }
+}
+
+#[test]
+fn greatest_use_counts() {
+    // 64 devices: 63 are consumers of the first, the most that a table has.
+    let mut table = b"TWB\x01\x00\x40\x3f".to_vec();
+    table.extend([255, 0].repeat(64));
+    table.extend((1..64).flat_map(|consumer| [consumer, 0, 1]));
+    let mut bench = load(&table).unwrap();
+    for device in 0..64 {
+        finishes(&mut bench, 10, device, 0, 0);
+    }
+    finishes(&mut bench, 1, 0, 0, 0);
+    bench.holds[0] = 32_767;
+    assert_eq!(bench.usage_count(0), Ok(32_830));
+    finishes(&mut bench, 7, 0, 0, -11);
+    finishes(&mut bench, 8, 0, 0, -11);
+    finishes(&mut bench, 6, 0, 0, -11);
+    assert_eq!(bench.usage_count(0), Ok(32_829));
+    // The stored counts alone, up to the greatest m.
+    bench.holds[0] = 32_767;
+    for links in 0..=128 {
+        bench.linked[0] = links;
+        assert_eq!(bench.usage(0), 32_767 + u32::from(links));
+        assert_eq!(bench.suspend_test(0), Some(-11));
+    }
+}
+
 #[test]
 fn pieces_refused() {
     let (mut bench, mut replies) = (day_bench(), [0xAA; 5_000]);

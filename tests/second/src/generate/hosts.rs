@@ -103,7 +103,8 @@ impl<'a> Session<'a> {
     }
 }
 
-fn next_record(random: &mut Random, bench: &Bench, host: Host) -> [u8; 4] {
+/// The record that a host writes next.
+pub fn next_record(random: &mut Random, bench: &Bench, host: Host) -> [u8; 4] {
     match host {
         Host::Steady => polite(random, bench, &STEADY_KINDS),
         Host::Lively => lively(random, bench),
@@ -162,7 +163,8 @@ fn near_limit(random: &mut Random, bench: &Bench) -> Option<u8> {
     (bench.holds[row] + 2 > MAX_HOLDS || bench.depth[row] > 253).then_some(device)
 }
 
-fn write(kind: u8, device: u8, value: i16) -> [u8; 4] {
+/// The bytes of a record.
+pub fn write(kind: u8, device: u8, value: i16) -> [u8; 4] {
     let [low, high] = value.to_le_bytes();
     [kind, device, low, high]
 }
