@@ -1,12 +1,12 @@
 // One request or result on a bench: each method hands back a whole new bench by value, and leaves the old one to its caller.
 ghost use mathlib.Core.Path.{_≡_};
+ghost use Rattle.model.specs.Records.{Done, finished};
 ghost use Rattle.model.specs.Methods.{requested};
+ghost use Rattle.requests.specs.Answers.{replyOf};
 ghost use Rattle.records.specs.Records.{recOf};
+ghost use Rattle.keeper.specs.declared.methods.Obstacle.the-variants.{Unsound};
 ghost use Rattle.keeper.specs.Translate.{stateOf};
 ghost use Rattle.keeper.specs.Methods.{requestedOf, recordFor, replyFrom, repliedWith, answerFor, Clear, Meets};
-ghost use Rattle.keeper.specs.declared.methods.Obstacle.the-variants.{Unsound};
-ghost use Rattle.model.specs.Records.{Done, finished};
-ghost use Rattle.requests.specs.Answers.{replyOf};
 use crate::Bench;
 use records::EINPROGRESS;
 use records::Record;
@@ -35,6 +35,7 @@ enum Obstacle {
     Nothing,
 }
 
+// The first of them, in the order of the tests.
 fn first_obstacle(b: Bench, device: u8) -> Obstacle
     ensures { λ r. ⌜ Meets (stateOf b) device r ⌝ }
 {
@@ -50,6 +51,7 @@ fn first_obstacle(b: Bench, device: u8) -> Obstacle
     Obstacle::Nothing
 }
 
+// A bench and the reply to a record.
 fn replied(b: Bench, reply: Reply) -> Requested
     ensures { λ o. ⌜ requestedOf o ≡ repliedWith (stateOf b) (replyOf reply) ⌝ }
 {
@@ -59,6 +61,7 @@ fn replied(b: Bench, reply: Reply) -> Requested
     }
 }
 
+// A reply from its numbers.
 fn reply_of(kind: u8, device: u8, code: u16) -> Reply
     ensures { λ r. ⌜ replyOf r ≡ replyFrom kind device code ⌝ }
 {
@@ -69,6 +72,7 @@ fn reply_of(kind: u8, device: u8, code: u16) -> Reply
     }
 }
 
+// A bench that is not sound, as it was.
 fn unsound(b: Bench) -> Requested
     ensures { λ o. ⌜ requestedOf o ≡ answerFor Unsound (stateOf b) 0 (finished (stateOf b) 0 0) ⌝ }
 {
@@ -96,10 +100,7 @@ impl Bench {
         ensures { λ o. ⌜ requestedOf o ≡ requested (stateOf self) (recOf r) ⌝ }
     {
         if !self.sound() {
-            return Requested {
-                outcome: Outcome::Unsound,
-                bench: self,
-            };
+            return unsound(self);
         }
         let mut ignore = self.ignore;
         let mut status = self.status;
@@ -137,10 +138,7 @@ impl Bench {
         self.callback = requests::kind_of(open);
         self.asked = requests::asked_of(open);
         self.target = requests::target_of(open);
-        Requested {
-            outcome: Outcome::Replied(reply),
-            bench: self,
-        }
+        replied(self, reply)
     }
 
     // Kind 1.

@@ -15,7 +15,7 @@ use Rattle.model.specs.Limits.{ROWS, NONE}
 use Rattle.model.specs.Tests.{_and_, _or_, any, first}
 use Rattle.model.specs.Table.{Wiring}
 use Rattle.model.specs.State.{State, ACTIVE}
-use Rattle.model.specs.WakeSet.{Sleeping, Needs, child, link, InWake, self, next, Lowest, marked, marksChild, marksConsumer, belongs, sweep, wakeMarks, inWake, lowest}
+use Rattle.model.specs.WakeSet.{Sleeping, Needs, child, link, InWake, self, next, Lowest, Falls, here, down-to, marked, On, marksChild, marksConsumer, belongs, sweep, wakeMarks, inWake, lowest}
 use Rattle.model.specs.Sound.{TableRules}
 use Rattle.model.proofs.Basics.{and-parts, and-of, or-cases, or-left, or-right, any-find, any-of, first-passes, first-least, at-set, few-devices, none-rows}
 
@@ -85,17 +85,9 @@ module _ {w : Wiring} {status : List ℕ} {t l : ℕ} (r : TableRules w) (ht : t
   )
 
 -- ---- the marks, for any columns at all
--- the members that are reached by falling numbers; where the table's rules hold these are all members
-pub data Falls (w : Wiring) (status : List ℕ) (t : ℕ) : ℕ → Type 0 where
-  here : Sleeping status t → Falls w status t t
-  down-to : {p q : ℕ} → Falls w status t p → Needs w p q → q < p → Sleeping status q → Falls w status t q
-
 pub falls-within : {w : Wiring} {status : List ℕ} {t q : ℕ} → Falls w status t q → q ≤ t
 falls-within (here s) = omega arith
 falls-within (down-to i d l s) = let k = falls-within i in omega arith
-
-abbrev pub On : List Bool → ℕ → Type 0
-On ms p = marked ms p ≡ true
 
 pub on-below : (ms : List Bool) (p : ℕ) → On ms p → p < length ms
 on-below ms p h = elim (decLt p (length ms)) [ yes l ↦ l | no g ↦ let e : _≡_ {A = ℕ} 0 1 = cc (List·getD-eq-default ms false {n = p} (omega arith)) in absurd (omega arith) ]

@@ -30,9 +30,18 @@ pub record Lowest (w : Wiring) (status : List ℕ) (t l : ℕ) : Type 0 where
   pub member : InWake w status t l
   pub least : (q : ℕ) → InWake w status t q → l ≤ q
 
+-- the members that are reached by falling numbers; where the table's rules hold these are all members, and the marks are theirs for
+-- any columns at all
+pub data Falls (w : Wiring) (status : List ℕ) (t : ℕ) : ℕ → Type 0 where
+  here : Sleeping status t → Falls w status t t
+  down-to : {p q : ℕ} → Falls w status t p → Needs w p q → q < p → Sleeping status q → Falls w status t q
+
 -- ---- the marks
 abbrev pub marked : List Bool → ℕ → Bool
 marked ms p = getD ms p false
+
+abbrev pub On : List Bool → ℕ → Type 0
+On ms p = marked ms p ≡ true
 
 -- some marked device has the parent q
 unfoldable pub marksChild : Wiring → List Bool → ℕ → Bool

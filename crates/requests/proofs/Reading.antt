@@ -8,11 +8,11 @@ use Rattle.model.specs.Limits.{NONE}
 use Rattle.model.specs.Tests.{first}
 use Rattle.model.specs.Table.{Wiring}
 use Rattle.model.specs.State.{Devices, Callback, Carry}
-use Rattle.model.specs.WakeSet.{Sleeping, marked, wakeMarks, inWake, lowest}
+use Rattle.model.specs.WakeSet.{Sleeping, here, marked, wakeMarks, inWake, lowest}
 use Rattle.model.specs.Requests.{suspendTest, barred, othersBarred, running, parentDown, supplierDown, needed}
 use Rattle.model.specs.Lent.{lent, ofBars, ofUse, ofParents, ofLinks}
 use Rattle.model.proofs.Basics.{first-least}
-use Rattle.model.proofs.WakeSet.{here, falls-iff}
+use Rattle.model.proofs.WakeSet.{falls-iff}
 use Rattle.requests.specs.Promises.{otherBarred, anyBarred}
 
 module _ (w : Wiring) (d : Devices) (c : Callback) (y : Carry) (p : ℕ) where

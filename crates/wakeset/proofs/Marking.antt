@@ -12,9 +12,9 @@ use lib.Seq.{getD-set-same, getD-set-other, ext-getD}
 use Rattle.model.specs.Limits.{LINKS, ROWS, NONE}
 use Rattle.model.specs.Tests.{_and_}
 use Rattle.model.specs.Table.{Wiring, wired}
-use Rattle.model.specs.WakeSet.{Sleeping, Needs, child, link, wakeMarks}
+use Rattle.model.specs.WakeSet.{Sleeping, Needs, child, link, Falls, here, down-to, On, wakeMarks}
 use Rattle.model.proofs.Tests.{tests}
-use Rattle.model.proofs.WakeSet.{On, Falls, here, down-to, none-on, marks-long, falls-iff}
+use Rattle.model.proofs.WakeSet.{none-on, marks-long, falls-iff}
 use Rattle.wakeset.specs.Marks.{onParent, leads, Joined, Closed, FromLinks, Ready}
 
 -- ---- the set of a device, from its first step

@@ -9,9 +9,8 @@ use lib.Dec.{ltb, eqb}
 use Rattle.model.specs.Limits.{LINKS, ROWS, NONE}
 use Rattle.model.specs.Tests.{_and_}
 use Rattle.model.specs.Table.{Wiring}
-use Rattle.model.specs.WakeSet.{Sleeping, Needs}
+use Rattle.model.specs.WakeSet.{Sleeping, Needs, Falls, On}
 use Rattle.model.specs.Questions.{climb}
-use Rattle.model.proofs.WakeSet.{On, Falls}
 
 -- p's parent is lower and counts its children
 unfoldable pub onParent : List ℕ → List ℕ → ℕ → Bool
