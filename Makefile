@@ -12,8 +12,9 @@ RECORDS ?= 30000
 .NOTPARALLEL:
 
 day:
-	rt check day
+	rt check day rows
 	target/bin/day
+	target/bin/rows
 
 test: listed second sample compare
 	rt ci

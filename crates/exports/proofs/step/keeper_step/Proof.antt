@@ -1,8 +1,8 @@
--- `exports::keeper_step` meets its contract. Assumes nothing.
+-- `exports::step::keeper_step` meets its contract. Assumes nothing.
 use Rattle.exports.proofs.Packing.{packs}
 use borrow.Author.Needs.{needs}
-use Rattle.exports.proofs.keeper_step.Statement.{statement}
-use Rattle.exports.proofs.keeper_step.Tie as tie
+use Rattle.exports.proofs.step.keeper_step.Statement.{statement}
+use Rattle.exports.proofs.step.keeper_step.Tie as tie
 
 returns : tie.Need-returns
 returns c = packs (rw (c .before .before .opened .ensures) at (c .before .step .ensures)) (c .packed .ensures)

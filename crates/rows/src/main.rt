@@ -1,0 +1,16 @@
+// What the keeper answers to single records: the day at the bench, every row of the table of kinds with every code, and what is turned away.
+mod kinds;
+mod log;
+mod most;
+mod questions;
+mod results;
+mod slips;
+
+fn main() {
+    log::cases();
+    kinds::cases();
+    results::cases();
+    questions::cases();
+    slips::cases();
+    most::cases();
+}
