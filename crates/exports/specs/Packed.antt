@@ -2,8 +2,8 @@
 use mathlib.Core.Path.{_≡_}
 use Prim.Native.Nat.{ℕ, _+_, _*_}
 use Rattle.model.specs.Table.{Wiring}
-use Rattle.model.specs.State.{State, Devices, Callback, Carry}
-use Rattle.model.specs.Records.{Rec, Reply, Done}
+use Rattle.model.specs.State.{Devices, Callback, Carry}
+use Rattle.model.specs.Records.{Rec, Reply}
 use Rattle.model.specs.Steps.{recordStep}
 use Rattle.model.specs.Sound.{Sound}
 use Rattle.model.specs.Lent.{lent}

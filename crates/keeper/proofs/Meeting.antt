@@ -14,7 +14,6 @@ use Rattle.model.specs.Tests.{if_then_else_, _and_, all}
 use Rattle.model.specs.State.{State}
 use Rattle.model.specs.Records.{Reply, Done, bounds, allowed, finished, refused}
 use Rattle.model.specs.Steps.{request, recordStep}
-use Rattle.model.specs.SoundTest.{soundTest}
 use Rattle.model.specs.Methods.{requested}
 use Rattle.model.proofs.Tests.{all-iff}
 use Rattle.records.specs.Records.{fault}
@@ -22,7 +21,7 @@ use Rattle.records.proofs.Stepping.{record-by}
 use Rattle.keeper.specs.declared.methods.Obstacle.{Obstacle}
 use Rattle.keeper.specs.declared.methods.Obstacle.the-variants.{Unsound, Unknown, Busy, Nothing}
 use Rattle.keeper.proofs.methods.Obstacle.{the-type}
-use Rattle.keeper.specs.Methods.{recordFor, repliedWith, answerFor, Clear, Meets}
+use Rattle.keeper.specs.Methods.{recordFor, repliedWith, Clear, Meets}
 
 -- ---- which obstacle
 pub not-clear : (m : Obstacle) → OneOf (0 ∷ 1 ∷ 2 ∷ []) (tagOf the-type m) → Clear m → ⊥

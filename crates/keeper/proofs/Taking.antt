@@ -1,5 +1,5 @@
 -- One record on a sound bench, by the contract of the dispatch. Assumes nothing.
-use mathlib.Core.Path.{_≡_, sym}
+use mathlib.Core.Path.{_≡_}
 use mathlib.Core.Bool.{true}
 use Rattle.model.specs.Tests.{if_then_else_}
 use Rattle.model.specs.Table.{Wiring}
@@ -8,7 +8,7 @@ use Rattle.model.specs.Records.{Rec}
 use Rattle.model.specs.Steps.{recordStep}
 use Rattle.model.specs.Sound.{Sound}
 use Rattle.model.specs.SoundTest.{soundTest}
-use Rattle.model.specs.Methods.{Requested, requested}
+use Rattle.model.specs.Methods.{requested}
 use Rattle.model.specs.Lent.{lent}
 use Rattle.requests.specs.declared.Callback as open-callback
 use Rattle.requests.specs.declared.Out.{Out}

@@ -1,7 +1,7 @@
 // The public questions on a bench. Each is refused first where the bench is not sound (21), then where a device is unknown (24).
 ghost use mathlib.Core.Path.{_≡_};
 ghost use mathlib.Core.Bool.{not};
-ghost use Prim.Native.Nat.{_+_, _≤_};
+ghost use Prim.Native.Nat.{_≤_};
 ghost use lib.Dec.{leb};
 ghost use Rattle.model.specs.Tests.{_or_, bit};
 ghost use Rattle.model.specs.State.{SUSPENDING};

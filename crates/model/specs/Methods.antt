@@ -1,5 +1,5 @@
 -- "Each request hands back a whole new bench": what one request on a bench gives, sound or not. Assumes nothing.
-use mathlib.Core.Bool.{Bool, true, false, not}
+use mathlib.Core.Bool.{not}
 use Prim.Native.Nat.{ℕ}
 use Rattle.model.specs.Tests.{if_then_else_}
 use Rattle.model.specs.State.{State}

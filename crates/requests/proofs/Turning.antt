@@ -1,10 +1,10 @@
 -- How the counts follow a change of status, as a state. Assumes nothing.
-use mathlib.Core.Path.{_≡_, refl, sym, _∙_}
+use mathlib.Core.Path.{_≡_, _∙_}
 use mathlib.Core.List.{List}
-use Prim.Native.Nat.{ℕ, _<_, _≤_}
+use Prim.Native.Nat.{ℕ, _<_}
 use native.Mathlib.Omega.{arith}
-use lib.ListN.{length, set, length-set}
-use Rattle.model.specs.Limits.{DEVICES, LINKS, ROWS, NONE}
+use lib.ListN.{set, length-set}
+use Rattle.model.specs.Limits.{DEVICES}
 use Rattle.model.specs.Table.{wired}
 use Rattle.model.specs.State.{State, childrenOf, linkedOf}
 use Rattle.model.specs.Sound.{Sound}

@@ -1,8 +1,8 @@
 -- What a transition promises of the columns that it is lent, whatever else the state holds. Assumes nothing.
 use mathlib.Core.Path.{_≡_}
-use mathlib.Core.Bool.{Bool, true, false, not}
+use mathlib.Core.Bool.{Bool, not}
 use mathlib.Core.List.{List}
-use Prim.Native.Nat.{ℕ, _<_, _≤_, _%_}
+use Prim.Native.Nat.{ℕ, _≤_, _%_}
 use lib.ListN.{getD, length}
 use lib.Dec.{ltb, eqb}
 use Rattle.model.specs.Limits.{LINKS, ROWS, NONE, MAXHOLDS, MAXDEPTH, EAGAIN, EBUSY, minus}

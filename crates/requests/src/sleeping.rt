@@ -9,7 +9,6 @@ ghost use Rattle.model.specs.State.{Callback};
 ghost use Rattle.model.specs.Requests.{suspendTest, idle, putIdle, askSuspend, suspend};
 ghost use Rattle.model.specs.Steps.{idleResult, suspendResult};
 ghost use Rattle.model.specs.Lent.{none, devicesFrom, ofUse};
-ghost use Rattle.requests.specs.Answers.{finishedOut};
 ghost use Rattle.requests.specs.Promises.{Leads, Turns, magnitude, passing, settled};
 use crate::ACTIVE;
 use crate::CallbackKind;

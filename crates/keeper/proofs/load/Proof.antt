@@ -1,9 +1,6 @@
 -- `keeper::load` meets its contract. Assumes nothing.
-use mathlib.Core.Path.{_≡_, sym, _∙_, ap}
-use Prim.Native.Nat.{ℕ}
 use borrow.Author.Tests.{eq-eqb, ne-eqb}
 use Rattle.model.specs.Tests.{if_then_else_}
-use Rattle.model.specs.Table.{TableAnswer, tableAnswer}
 use Rattle.model.specs.State.{loadOf}
 use Rattle.keeper.proofs.Answers.{refused, taken}
 use borrow.Author.Needs.{needs}

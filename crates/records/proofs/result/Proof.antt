@@ -1,5 +1,4 @@
 -- `records::result` meets its contract. Assumes nothing.
-use mathlib.Core.Path.{sym}
 use borrow.Author.Tests.{eq-eqb, ne-eqb}
 use Rattle.model.specs.Tests.{if_then_else_}
 use Rattle.records.specs.Records.{resultStep}

@@ -1,5 +1,5 @@
 -- `records::sleeping_request` meets its contract. Assumes nothing.
-use borrow.Author.Tests.{eq-eqb, ne-eqb}
+use borrow.Author.Tests.{ne-eqb}
 use Rattle.model.specs.Tests.{if_then_else_}
 use Rattle.records.specs.Records.{sleepingOf}
 use borrow.Author.Needs.{needs}

@@ -1,5 +1,5 @@
 -- `requests::opened` meets its contract. Assumes nothing.
-use borrow.Author.Tests.{eq-eqb, ne-eqb}
+use borrow.Author.Tests.{ne-eqb}
 use Rattle.model.specs.Tests.{if_then_else_}
 use Rattle.requests.specs.Answers.{openedAs}
 use Rattle.requests.proofs.opened.Statement.{statement}

@@ -5,7 +5,6 @@ use Rattle.model.specs.Methods.{requested}
 use Rattle.model.proofs.Keeping.{none-open}
 use Rattle.records.proofs.Stepping.{fit}
 use Rattle.soundness.proofs.Chains.{passed, failed}
-use Rattle.keeper.specs.Translate.{stateOf}
 use Rattle.keeper.proofs.Meeting.{plain}
 use borrow.Author.Needs.{needs}
 use Rattle.keeper.proofs.methods.first_obstacle.Statement.{statement}

@@ -1,5 +1,4 @@
 -- `keeper::methods::turned_away` meets its contract. Assumes nothing.
-use mathlib.Core.Path.{_≡_}
 use Rattle.keeper.proofs.Meeting.{clear}
 use borrow.Author.Needs.{needs}
 use Rattle.keeper.proofs.methods.turned_away.Statement.{statement}

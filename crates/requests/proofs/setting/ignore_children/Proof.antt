@@ -1,7 +1,6 @@
 -- `requests::setting::ignore_children` meets its contract. Assumes nothing.
 use mathlib.Core.Path.{_≡_, sym, _∙_}
 use native.Mathlib.Omega.{arith}
-use borrow.Author.Tests.{eq-eqb, ne-eqb}
 use Rattle.model.specs.Tests.{if_then_else_, _and_}
 use Rattle.model.specs.Requests.{ignoreChildren}
 use Rattle.requests.specs.Promises.{inactiveWithChildren}
