@@ -9,8 +9,8 @@ use lib.Seq.{ext-getD}
 use borrow.Author.Tests.{eqb-true, eqb-false}
 use Rattle.model.specs.Limits.{LINKS, ROWS}
 use Rattle.model.specs.State.{State, atRest, emptyState}
-use Rattle.keeper.specs.declared.Bench.{Bench}
-use Rattle.keeper.specs.Translate.{stateOf}
+use Rattle.bench.specs.declared.Bench.{Bench}
+use Rattle.bench.specs.Translate.{stateOf}
 use Rattle.day.specs.Tells.{Tells}
 
 pub is-true : {P : Type 0} → P → Tells true P

@@ -3,9 +3,9 @@ ghost use mathlib.Core.Path.{_≡_};
 ghost use lib.ListN.{length, replicate};
 ghost use Rattle.model.specs.Limits.{LINKS, ROWS};
 ghost use Rattle.model.specs.State.{emptyState};
-ghost use Rattle.keeper.specs.Translate.{stateOf};
+ghost use Rattle.bench.specs.Translate.{stateOf};
 ghost use Rattle.day.specs.Tells.{Tells};
-use keeper::Bench;
+use bench::Bench;
 use model::LINKS;
 use model::ROWS;
 

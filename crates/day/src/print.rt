@@ -2,7 +2,7 @@
 ghost use mathlib.Core.Path.{_≡_};
 ghost use Prim.Native.Nat.{_+_};
 ghost use Rattle.table.specs.Answers.{answerOf};
-use keeper::Bench;
+use bench::Bench;
 use table::Answer;
 
 pub fn text(s: &[u8]) {

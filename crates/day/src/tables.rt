@@ -2,7 +2,7 @@
 use crate::build;
 use crate::empty;
 use crate::print;
-use keeper::Bench;
+use bench::Bench;
 use keeper::Loaded;
 use table::Answer;
 

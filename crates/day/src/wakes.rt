@@ -1,7 +1,7 @@
 // Wake sets: who has to wake for a device, the lowest of them, and the parents above the device.
 use crate::build;
 use crate::print;
-use keeper::Bench;
+use bench::Bench;
 use model::ROWS;
 
 fn member(on: bool, p: u8) {

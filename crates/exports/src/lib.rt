@@ -12,12 +12,12 @@ ghost use Rattle.soundness.specs.Lent.{stateFrom};
 ghost use lib.ListN.{getD};
 ghost use Rattle.model.specs.State.{loadOf};
 ghost use Rattle.table.specs.Answers.{answerOf};
-ghost use Rattle.keeper.specs.Translate.{stateOf};
+ghost use Rattle.bench.specs.Translate.{stateOf};
 ghost use Rattle.exports.specs.Columns.{coded, filled, scalarsOf, columnOf};
 
 mod step;
 
-use keeper::Bench;
+use bench::Bench;
 use model::LINKS;
 use model::ROWS;
 use table::Answer;

@@ -1,6 +1,2 @@
 -- What the proofs of the functions cite.
 pub mod Answers
-pub mod Translations
-pub mod Telling
-pub mod Taking
-pub mod Meeting

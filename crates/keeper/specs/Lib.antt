@@ -1,3 +1,1 @@
 pub mod Translate
-pub mod Answers
-pub mod Methods

@@ -1,15 +1,8 @@
--- A bench as the model's state, and back. Assumes nothing.
-use Rattle.keeper.specs.declared.Bench.{Bench}
-use Rattle.keeper.specs.declared.Loaded as declared
-use Rattle.model.specs.State.{State, Loaded}
+-- What `load` hands back, in the model's words. Assumes nothing.
+use Rattle.model.specs.State.{Loaded}
 use Rattle.table.specs.Answers.{answerOf}
+use Rattle.bench.specs.Translate.{stateOf}
+use Rattle.keeper.specs.declared.Loaded as declared
 
-abbrev pub stateOf : Bench → State
-stateOf b = record { wiring = record { n = b .n; m = b .m; parent = b .parent; ignore = b .ignore; consumer = b .consumer; supplier = b .supplier; flags = b .flags }; devices = record { status = b .status; holds = b .holds; depth = b .depth; error = b .error; children = b .children; linked = b .linked }; callback = record { kind = b .callback; asked = b .asked; target = b .target }; carry = record { bytes = b .carried; used = b .used } }
-
-abbrev pub benchOf : State → Bench
-benchOf s = record { n = s .wiring .n; m = s .wiring .m; parent = s .wiring .parent; ignore = s .wiring .ignore; consumer = s .wiring .consumer; supplier = s .wiring .supplier; flags = s .wiring .flags; status = s .devices .status; holds = s .devices .holds; depth = s .devices .depth; error = s .devices .error; children = s .devices .children; linked = s .devices .linked; callback = s .callback .kind; asked = s .callback .asked; target = s .callback .target; carried = s .carry .bytes; used = s .carry .used }
-
--- what `load` hands back, in the model's words
 abbrev pub loadedOf : declared.Loaded → Loaded
 loadedOf l = record { answer = answerOf (l .answer); state = stateOf (l .bench) }

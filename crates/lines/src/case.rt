@@ -2,8 +2,8 @@
 use crate::print;
 use crate::same;
 use crate::steps;
-use keeper::Bench;
-use keeper::methods::Requested;
+use bench::Bench;
+use bench::methods::Requested;
 use records::Record;
 
 fn unchanged(before: Bench, after: Bench) {

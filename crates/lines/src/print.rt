@@ -2,12 +2,12 @@
 ghost use mathlib.Core.Path.{_≡_};
 ghost use mathlib.Core.List.{[], _∷_};
 ghost use Prim.Native.Nat.{_<_, _/_, _%_};
-use keeper::Bench;
-use keeper::methods::Outcome;
-use keeper::questions::MemberAnswer;
-use keeper::questions::NumberAnswer;
-use keeper::questions::Status;
-use keeper::questions::StatusAnswer;
+use bench::Bench;
+use bench::methods::Outcome;
+use bench::questions::MemberAnswer;
+use bench::questions::NumberAnswer;
+use bench::questions::Status;
+use bench::questions::StatusAnswer;
 use records::Record;
 
 pub fn text(s: &[u8]) {

@@ -2,8 +2,8 @@
 ghost use mathlib.Core.Path.{_≡_};
 ghost use mathlib.Core.Bool.{true};
 use crate::print;
-use keeper::Bench;
-use keeper::methods::Requested;
+use bench::Bench;
+use bench::methods::Requested;
 use model::LINKS;
 use model::ROWS;
 

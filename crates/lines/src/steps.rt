@@ -1,10 +1,10 @@
 // Records on a bench: by the bench's methods, and by the dispatch over columns.
 ghost use mathlib.Core.Path.{_≡_};
 ghost use Rattle.records.specs.Records.{recOf};
-ghost use Rattle.keeper.specs.Methods.{recordFor};
-use keeper::Bench;
-use keeper::methods::Outcome;
-use keeper::methods::Requested;
+ghost use Rattle.bench.specs.Methods.{recordFor};
+use bench::Bench;
+use bench::methods::Outcome;
+use bench::methods::Requested;
 use records::Record;
 use requests::Callback;
 

@@ -1,5 +1,5 @@
 // Kinds 1 to 12: every row of document 01's table of kinds, with every code it can give.
-use keeper::Bench;
+use bench::Bench;
 use lines::case::show;
 use lines::case::with;
 use lines::steps;

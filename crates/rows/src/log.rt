@@ -1,8 +1,8 @@
 // "A day at the bench" of document 01: its twelve records by the bench's methods, and by the dispatch.
 ghost use mathlib.Core.Path.{_≡_};
 ghost use Prim.Native.Nat.{_<_, _+_, _*_};
-use keeper::Bench;
-use keeper::methods::Requested;
+use bench::Bench;
+use bench::methods::Requested;
 use lines::print;
 use lines::same;
 use lines::steps;

@@ -1,7 +1,7 @@
 // The greatest usage count: 32,767 user holds and a runtime link from each of 63 powered consumers.
 ghost use mathlib.Core.Path.{_≡_};
 use crate::kinds::with_holds;
-use keeper::Bench;
+use bench::Bench;
 use lines::case;
 use lines::case::show;
 use lines::print;

@@ -1,6 +1,6 @@
 // The public questions, and the benches that every request and question turns away.
-use keeper::Bench;
-use keeper::questions::NumberAnswer;
+use bench::Bench;
+use bench::questions::NumberAnswer;
 use lines::case;
 use lines::print;
 use lines::steps;

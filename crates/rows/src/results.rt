@@ -1,6 +1,6 @@
 // Kind 13, and the records that are turned away.
 use crate::kinds;
-use keeper::Bench;
+use bench::Bench;
 use lines::case;
 use lines::case::show;
 use lines::case::with;

@@ -7,7 +7,7 @@ use native.Mathlib.Omega.{arith}
 use lib.ListN.{List·getD-eq-default}
 use borrow.Author.Needs.{needs}
 use Rattle.model.specs.Limits.{ROWS}
-use Rattle.keeper.specs.Translate.{stateOf}
+use Rattle.bench.specs.Translate.{stateOf}
 use Rattle.exports.specs.Columns.{filled, columnOf, columnsOf}
 use Rattle.exports.proofs.Rows.{filled-nothing}
 use Rattle.exports.proofs.column_of.Statement.{statement}

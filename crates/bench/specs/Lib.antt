@@ -1,0 +1,3 @@
+pub mod Translate
+pub mod Answers
+pub mod Methods
