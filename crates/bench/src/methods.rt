@@ -12,7 +12,6 @@ use records::EINPROGRESS;
 use records::Record;
 use requests::Reply;
 use requests::holding;
-use requests::waking;
 
 // What a request is answered: the bench is not sound (21), or the record's reply.
 pub enum Outcome {

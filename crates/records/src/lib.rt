@@ -18,7 +18,6 @@ use requests::Reply;
 use requests::holding;
 use requests::setting;
 use requests::sleeping;
-use requests::waking;
 
 // A record: its value is the 16-bit number as it stands.
 pub struct Record {

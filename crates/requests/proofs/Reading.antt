@@ -1,19 +1,11 @@
 -- What the model's definitions read of a state: the columns that the code is lent are enough. Assumes nothing.
-use mathlib.Core.Path.{_≡_, refl, sym}
-use mathlib.Core.Bool.{Bool}
-use mathlib.Core.List.{List, []}
-use Prim.Native.Nat.{ℕ, _<_, _≤_}
-use native.Mathlib.Omega.{arith}
-use Rattle.model.specs.Limits.{NONE}
-use Rattle.model.specs.Tests.{first}
+use mathlib.Core.Path.{_≡_, refl}
+use mathlib.Core.List.{[]}
+use Prim.Native.Nat.{ℕ}
 use Rattle.model.specs.Table.{Wiring}
 use Rattle.model.specs.State.{Devices, Callback, Carry}
-use Rattle.model.specs.WakeSet.{Sleeping, here, marked, wakeMarks, inWake, lowest}
-use Rattle.model.specs.Requests.{suspendTest, barred, othersBarred, running, parentDown, supplierDown, needed}
+use Rattle.model.specs.Requests.{suspendTest, running, parentDown, supplierDown, needed}
 use Rattle.model.specs.Lent.{lent, ofBars, ofUse, ofParents, ofLinks}
-use Rattle.model.proofs.Basics.{first-least}
-use Rattle.model.proofs.WakeSet.{falls-iff}
-use Rattle.requests.specs.Promises.{otherBarred, anyBarred}
 
 module _ (w : Wiring) (d : Devices) (c : Callback) (y : Carry) (p : ℕ) where
   pub test-reads : suspendTest (lent w d c y) p ≡ suspendTest (ofUse (w .ignore) (d .holds) (d .depth) (d .error) (d .children) (d .linked)) p
@@ -35,16 +27,3 @@ module _ (w : Wiring) (d : Devices) (c : Callback) (y : Carry) (p : ℕ) where
   pub needed-reads : needed (lent w d c y) p ≡ needed (ofUse (w .ignore) [] [] [] (d .children) (d .linked)) p
   unfolding needed
   needed-reads = refl
-
-  -- from the marks of the wake set
-  pub others-reads : {marks : List Bool} → marks ≡ wakeMarks w (d .status) p → othersBarred (lent w d c y) p ≡ anyBarred marks (d .depth) (d .error) (w .n) p
-  unfolding othersBarred anyBarred otherBarred inWake barred
-  others-reads e = rw e
-
-  pub lowest-reads : {marks : List Bool} {q : ℕ} → marks ≡ wakeMarks w (d .status) p → q ≡ first (marked marks) (w .n) → lowest (lent w d c y) p ≡ q
-  unfolding lowest inWake
-  lowest-reads e f = sym (rw e at f)
-
--- the wake set of a sleeping device has a first mark
-pub some-marked : (w : Wiring) (status : List ℕ) (p : ℕ) → w .n ≤ NONE → p < w .n → Sleeping status p → {marks : List Bool} {q : ℕ} → marks ≡ wakeMarks w status p → q ≡ first (marked marks) (w .n) → q < w .n
-some-marked w status p few l s e f = let z = first-least (marked (wakeMarks w status p)) (w .n) p (falls-iff w status p few l p .1 (here s)) in let g = rw e at f in omega arith

@@ -6,13 +6,12 @@ use Prim.Native.Nat.{ℕ, _≤_, _%_}
 use lib.ListN.{getD, length}
 use lib.Dec.{ltb, eqb}
 use Rattle.model.specs.Limits.{LINKS, ROWS, NONE, MAXHOLDS, MAXDEPTH, EAGAIN, EBUSY, minus}
-use Rattle.model.specs.Tests.{if_then_else_, _and_, _or_, any}
+use Rattle.model.specs.Tests.{if_then_else_, _and_, _or_}
 use Rattle.model.specs.Table.{Wiring, wired}
-use Rattle.model.specs.State.{State, Devices, Callback, Carry, SUSPENDED, RESUMING, ACTIVE, withStatus, withCallback}
-use Rattle.model.specs.WakeSet.{marked}
-use Rattle.model.specs.Records.{Done, finished, ask}
-use Rattle.model.specs.Requests.{barred, ignoreChildren}
-use Rattle.model.specs.Lent.{devicesFrom, lent, ofBars, withHoldsColumn, withDepthColumn}
+use Rattle.model.specs.State.{State, Devices, Callback, Carry, SUSPENDED, ACTIVE}
+use Rattle.model.specs.Records.{Done, finished}
+use Rattle.model.specs.Requests.{ignoreChildren}
+use Rattle.model.specs.Lent.{devicesFrom, lent, withHoldsColumn, withDepthColumn}
 use Rattle.counts.specs.Shifts.{InLine}
 use Rattle.requests.specs.declared.Out.{Out}
 use Rattle.requests.specs.Answers.{doneOf}
@@ -58,21 +57,6 @@ passing v = eqb v (minus EAGAIN) or eqb v (minus EBUSY)
 -- the status that a suspend callback's result leads to
 unfoldable pub settled : ℕ → ℕ
 settled v = if eqb v 0 then SUSPENDED else ACTIVE
-
--- q is marked, is not p, and is barred
-unfoldable pub otherBarred : List Bool → List ℕ → List ℕ → ℕ → ℕ → Bool
-otherBarred marks depth error p q = marked marks q and not (eqb q p) and barred (ofBars depth error) q
-
-unfoldable pub anyBarred : List Bool → List ℕ → List ℕ → ℕ → ℕ → Bool
-anyBarred marks depth error n p = any (otherBarred marks depth error p) n
-
--- q turns resuming for the wake of t, and its resume callback is asked for
-unfoldable pub resumeOf : State → ℕ → ℕ → Done
-resumeOf s q t = ask (withCallback (withStatus s q RESUMING) 2 q t) 2 q
-
--- the resume callback of p is open for the wake of t
-abbrev pub askingAt : ℕ → ℕ → Callback
-askingAt p t = record { kind = 2; asked = p; target = t }
 
 -- link i is a runtime link of p, and its supplier is not active
 unfoldable pub linkDown : (consumer supplier flags status : List ℕ) → ℕ → ℕ → Bool

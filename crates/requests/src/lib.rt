@@ -1,4 +1,5 @@
-// What each request and each callback result does: one function for each transition, over columns that the caller lends.
+// What each request and each callback result does, but for those of a wake: one function for each transition, over columns that the
+// caller lends.
 ghost use mathlib.Core.Path.{_≡_};
 ghost use Rattle.counts.specs.Shifts.{Row};
 ghost use Rattle.requests.specs.Answers.{numberOf, callbackOf, openedAs, finishedOut, askedOut};
@@ -6,7 +7,6 @@ ghost use Rattle.requests.specs.Answers.{numberOf, callbackOf, openedAs,
 pub mod holding;
 pub mod setting;
 pub mod sleeping;
-pub mod waking;
 
 // Error codes as they stand in a reply: 65,536 less Linux's number.
 pub const EAGAIN: u16 = 65525;

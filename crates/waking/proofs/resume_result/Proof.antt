@@ -1,11 +1,11 @@
--- `requests::waking::resume_result` meets its contract. Assumes nothing.
+-- `waking::resume_result` meets its contract. Assumes nothing.
 use borrow.Author.Tests.{eq-eqb}
 use Rattle.model.specs.Tests.{if_then_else_}
 use Rattle.model.specs.Steps.{resumeResult}
 use Rattle.requests.proofs.Turning.{after, ready-after}
 use borrow.Author.Needs.{needs}
-use Rattle.requests.proofs.waking.resume_result.Statement.{statement}
-use Rattle.requests.proofs.waking.resume_result.Tie as tie
+use Rattle.waking.proofs.resume_result.Statement.{statement}
+use Rattle.waking.proofs.resume_result.Tie as tie
 
 returns : tie.Need-returns
 returns c = λ holds depth l b r. c .resume-failed .ensures _ _ holds depth l (c .before .before .before .before .before .if1 .taken) r

@@ -1,9 +1,9 @@
--- `requests::waking::ask_resume` meets its contract. Assumes nothing.
-use Rattle.requests.specs.Promises.{resumeOf}
+-- `waking::ask_resume` meets its contract. Assumes nothing.
+use Rattle.waking.specs.Wakes.{resumeOf}
 use Rattle.requests.proofs.Turning.{after}
 use borrow.Author.Needs.{needs}
-use Rattle.requests.proofs.waking.ask_resume.Statement.{statement}
-use Rattle.requests.proofs.waking.ask_resume.Tie as tie
+use Rattle.waking.proofs.ask_resume.Statement.{statement}
+use Rattle.waking.proofs.ask_resume.Tie as tie
 
 returns : tie.Need-returns
 unfolding resumeOf

@@ -1,12 +1,12 @@
--- `requests::waking::barred` meets its contract. Assumes nothing.
+-- `waking::barred` meets its contract. Assumes nothing.
 use native.Mathlib.Omega.{arith}
 use lib.ListN.{getD}
 use borrow.Author.Tests.{lt-ltb, le-ltb}
 use Rattle.model.specs.Tests.{_or_}
 use Rattle.model.specs.Requests.{barred}
 use borrow.Author.Needs.{needs}
-use Rattle.requests.proofs.waking.barred.Statement.{statement}
-use Rattle.requests.proofs.waking.barred.Tie as tie
+use Rattle.waking.proofs.barred.Statement.{statement}
+use Rattle.waking.proofs.barred.Tie as tie
 
 returns : tie.Need-returns
 unfolding barred _or_

@@ -1,4 +1,4 @@
--- `requests::waking::wake` meets its contract. Assumes nothing.
+-- `waking::wake` meets its contract. Assumes nothing.
 use Rattle.model.specs.Table.{wired}
 use Rattle.model.specs.Lent.{devicesFrom, none}
 use native.Mathlib.Omega.{arith}
@@ -7,11 +7,11 @@ use lib.ListN.{getD}
 use borrow.Author.Tests.{eq-eqb, ne-eqb, lt-ltb, le-ltb}
 use Rattle.model.specs.Tests.{if_then_else_}
 use Rattle.model.specs.Requests.{askResume, wake}
-use Rattle.requests.specs.Promises.{resumeOf}
-use Rattle.requests.proofs.Reading.{others-reads, lowest-reads, some-marked}
+use Rattle.waking.specs.Wakes.{resumeOf}
+use Rattle.waking.proofs.Reading.{others-reads, lowest-reads, some-marked}
 use borrow.Author.Needs.{needs}
-use Rattle.requests.proofs.waking.wake.Statement.{statement}
-use Rattle.requests.proofs.waking.wake.Tie as tie
+use Rattle.waking.proofs.wake.Statement.{statement}
+use Rattle.waking.proofs.wake.Tie as tie
 
 returns : tie.Need-returns
 unfolding wake if_then_else_

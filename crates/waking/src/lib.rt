@@ -1,4 +1,4 @@
-// Kinds 4 and 9, and the result of the resume callback.
+// Kinds 4 and 9, and the result of the resume callback, over columns that the caller lends.
 ghost use mathlib.Core.Path.{_≡_};
 ghost use mathlib.Core.List.{List};
 ghost use Prim.Native.Nat.{ℕ, _<_, _≤_};
@@ -9,22 +9,23 @@ ghost use Rattle.model.specs.State.{SUSPENDING};
 ghost use Rattle.model.specs.Requests.{barred, wake, getWake};
 ghost use Rattle.model.specs.Steps.{goOn, resumeResult};
 ghost use Rattle.model.specs.Lent.{none, devicesFrom, ofBars};
-ghost use Rattle.requests.specs.Promises.{Turns, otherBarred, anyBarred, resumeOf, askingAt};
-use crate::ACTIVE;
-use crate::CallbackKind;
-use crate::EAGAIN;
-use crate::EBUSY;
-use crate::EINVAL;
-use crate::Out;
-use crate::RESUMING;
-use crate::SUSPENDED;
-use crate::ask;
-use crate::finished;
-use crate::holding;
-use crate::row;
-use crate::sleeping;
+ghost use Rattle.requests.specs.Promises.{Turns};
+ghost use Rattle.waking.specs.Wakes.{otherBarred, anyBarred, resumeOf, askingAt};
 use model::LINKS;
 use model::ROWS;
+use requests::ACTIVE;
+use requests::CallbackKind;
+use requests::EAGAIN;
+use requests::EBUSY;
+use requests::EINVAL;
+use requests::Out;
+use requests::RESUMING;
+use requests::SUSPENDED;
+use requests::ask;
+use requests::finished;
+use requests::holding;
+use requests::row;
+use requests::sleeping;
 
 // Device q has an error or a disable depth above 0.
 fn barred<'a>(depth: &'a [u8; ROWS], error: &'a [u16; ROWS], q: u8) -> bool

@@ -1,12 +1,12 @@
--- `requests::waking::other_barred` meets its contract. Assumes nothing.
+-- `waking::other_barred` meets its contract. Assumes nothing.
 use mathlib.Core.Bool.{false}
 use lib.ListN.{getD}
 use borrow.Author.Tests.{eq-eqb, ne-eqb, not-true, not-false}
 use Rattle.model.specs.Tests.{_and_}
-use Rattle.requests.specs.Promises.{otherBarred}
+use Rattle.waking.specs.Wakes.{otherBarred}
 use borrow.Author.Needs.{needs}
-use Rattle.requests.proofs.waking.other_barred.Statement.{statement}
-use Rattle.requests.proofs.waking.other_barred.Tie as tie
+use Rattle.waking.proofs.other_barred.Statement.{statement}
+use Rattle.waking.proofs.other_barred.Tie as tie
 
 returns : tie.Need-returns
 unfolding otherBarred _and_

@@ -1,12 +1,12 @@
--- `requests::waking::get_wake` meets its contract. Assumes nothing.
+-- `waking::get_wake` meets its contract. Assumes nothing.
 use mathlib.Core.Path.{_∙_}
 use Rattle.model.specs.Table.{wired}
 use Rattle.model.specs.Requests.{get, wake, getWake}
 use Rattle.model.specs.Lent.{devicesFrom, lent, none}
 use Rattle.requests.proofs.Chained.{held-stop, held-go}
 use borrow.Author.Needs.{needs}
-use Rattle.requests.proofs.waking.get_wake.Statement.{statement}
-use Rattle.requests.proofs.waking.get_wake.Tie as tie
+use Rattle.waking.proofs.get_wake.Statement.{statement}
+use Rattle.waking.proofs.get_wake.Tie as tie
 
 returns : tie.Need-returns
 unfolding get getWake

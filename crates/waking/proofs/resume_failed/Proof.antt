@@ -1,12 +1,12 @@
--- `requests::waking::resume_failed` meets its contract. Assumes nothing.
+-- `waking::resume_failed` meets its contract. Assumes nothing.
 use borrow.Author.Tests.{eq-eqb, ne-eqb}
 use Rattle.model.specs.Tests.{if_then_else_}
 use Rattle.model.specs.Steps.{resumeResult}
 use Rattle.requests.specs.Promises.{magnitude}
 use Rattle.requests.proofs.Turning.{after}
 use borrow.Author.Needs.{needs}
-use Rattle.requests.proofs.waking.resume_failed.Statement.{statement}
-use Rattle.requests.proofs.waking.resume_failed.Tie as tie
+use Rattle.waking.proofs.resume_failed.Statement.{statement}
+use Rattle.waking.proofs.resume_failed.Tie as tie
 
 returns : tie.Need-returns
 unfolding resumeResult magnitude if_then_else_

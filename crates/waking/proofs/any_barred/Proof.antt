@@ -1,14 +1,14 @@
--- `requests::waking::any_barred` meets its contract. The invariant: no device passed is marked and barred. Assumes nothing.
+-- `waking::any_barred` meets its contract. The invariant: no device passed is marked and barred. Assumes nothing.
 use mathlib.Core.Path.{_≡_, sym, _∙_}
 use mathlib.Core.Bool.{false}
 use Prim.Native.Nat.{ℕ, _-_, _<_, _≤_}
 use native.Mathlib.Omega.{arith}
 use borrow.Author.Count.{below-more}
 use Rattle.requests.proofs.Loops.{any-met, any-none}
-use Rattle.requests.specs.Promises.{otherBarred, anyBarred}
+use Rattle.waking.specs.Wakes.{otherBarred, anyBarred}
 use borrow.Author.Needs.{needs}
-use Rattle.requests.proofs.waking.any_barred.Statement.{statement}
-use Rattle.requests.proofs.waking.any_barred.Tie as tie
+use Rattle.waking.proofs.any_barred.Statement.{statement}
+use Rattle.waking.proofs.any_barred.Tie as tie
 
 abbrev Inv-loop : tie.InvT-loop
 Inv-loop marks depth error n p q₀ q = (q ≤ n) × ((j : ℕ) → j < q → otherBarred marks depth error p j ≡ false)

@@ -1,15 +1,15 @@
--- `requests::waking::go_on` meets its contract. Assumes nothing.
+-- `waking::go_on` meets its contract. Assumes nothing.
 use Rattle.model.specs.Table.{wired}
 use Rattle.model.specs.Lent.{devicesFrom, none}
 use borrow.Author.Tests.{lt-ltb, le-ltb}
 use Rattle.model.specs.Tests.{if_then_else_}
 use Rattle.model.specs.Requests.{askResume}
 use Rattle.model.specs.Steps.{goOn}
-use Rattle.requests.specs.Promises.{resumeOf}
-use Rattle.requests.proofs.Reading.{lowest-reads}
+use Rattle.waking.specs.Wakes.{resumeOf}
+use Rattle.waking.proofs.Reading.{lowest-reads}
 use borrow.Author.Needs.{needs}
-use Rattle.requests.proofs.waking.go_on.Statement.{statement}
-use Rattle.requests.proofs.waking.go_on.Tie as tie
+use Rattle.waking.proofs.go_on.Statement.{statement}
+use Rattle.waking.proofs.go_on.Tie as tie
 
 returns : tie.Need-returns
 unfolding goOn if_then_else_
