@@ -1,10 +1,11 @@
-// How a table is loaded into a bench.
+// The keeper: a table is loaded into a bench, and pieces of log are fed to it.
 ghost use mathlib.Core.Path.{_≡_};
 ghost use Rattle.model.specs.Limits.{ROWS};
 ghost use Rattle.model.specs.Table.{cell, padded, wiringIn};
 ghost use Rattle.model.specs.State.{loaded, emptyState, loadOf};
 ghost use Rattle.bench.specs.Translate.{stateOf};
-ghost use Rattle.keeper.specs.Translate.{loadedOf};
+ghost use Rattle.model.specs.Feed.{feedOf};
+ghost use Rattle.keeper.specs.Translate.{loadedOf, fedOf};
 use bench::Bench;
 use model::LINKS;
 use model::ROWS;
@@ -119,5 +120,70 @@ pub fn load(t: &[u8]) -> Loaded
     Loaded {
         answer: answer,
         bench: at_rest(t),
+    }
+}
+
+// What a piece of log gives: the answer, and the bench handed back, as it was where the piece is refused.
+pub struct Fed {
+    pub answer: feeding::Answer,
+    pub bench: Bench,
+}
+
+// Feed a piece of log: 21, 22 and 23 are tested in this order. The replies stand at the front of the buffer, the rest of which stays.
+// The columns are copied once for a piece.
+pub fn feed(mut bench: Bench, piece: &[u8], replies: &mut [u8]) -> Fed
+    ensures { λ r. ⌜ fedOf r (now (replies .exit)) ≡ feedOf (stateOf bench) (record { bytes = now (piece .entry); buffer = now (replies .entry) }) ⌝ }
+{
+    if !bench.sound() {
+        return Fed {
+            answer: feeding::Answer::Unsound,
+            bench: bench,
+        };
+    }
+    let mut ignore = bench.ignore;
+    let mut status = bench.status;
+    let mut holds = bench.holds;
+    let mut depth = bench.depth;
+    let mut error = bench.error;
+    let mut children = bench.children;
+    let mut linked = bench.linked;
+    let mut carried = bench.carried;
+    let fed = feeding::feed(
+        &bench.parent,
+        &mut ignore,
+        &bench.consumer,
+        &bench.supplier,
+        &bench.flags,
+        bench.n,
+        bench.m,
+        &mut status,
+        &mut holds,
+        &mut depth,
+        &mut error,
+        &mut children,
+        &mut linked,
+        requests::opened(bench.callback, bench.asked, bench.target),
+        &mut carried,
+        bench.used,
+        piece,
+        replies,
+    );
+    let answer = fed.answer;
+    let open = fed.callback;
+    bench.ignore = ignore;
+    bench.status = status;
+    bench.holds = holds;
+    bench.depth = depth;
+    bench.error = error;
+    bench.children = children;
+    bench.linked = linked;
+    bench.callback = requests::kind_of(open);
+    bench.asked = requests::asked_of(open);
+    bench.target = requests::target_of(open);
+    bench.carried = carried;
+    bench.used = fed.used;
+    Fed {
+        answer: answer,
+        bench: bench,
     }
 }

@@ -10,3 +10,6 @@ pub const DEVICES: u8 = 64;
 
 // The parent of a device that has none.
 pub const NONE: u8 = 255;
+
+// The most bytes of a piece of log.
+pub const PIECE: usize = 4096;
