@@ -1,3 +1,4 @@
 -- What the proofs of the functions cite.
 pub mod Answers
 pub mod Pieces
+pub mod Calls

@@ -1,0 +1,67 @@
+-- "Demand 3 in exact words", said of calls of `load` and `feed`: what they were given, and what they handed back. Assumes nothing.
+use mathlib.Core.Path.{_≡_}
+use mathlib.Core.List.{List, [], _∷_, map}
+use Prim.Native.Nat.{ℕ, _<_, _+_}
+use Rattle.model.specs.State.{usage, linkCount, loadOf}
+use Rattle.model.specs.Steps.{run, repliesIn}
+use Rattle.model.specs.Sound.{Supply}
+use Rattle.model.specs.Feed.{Piece, Fed, feedOf}
+use Rattle.model.specs.Demand3.{joined, refusals, takenBytes, isGet, isPut, counted}
+use Rattle.feeding.specs.Pieces.{numberOf}
+use Rattle.bench.specs.declared.Bench.{Bench}
+use Rattle.bench.specs.Translate.{stateOf}
+use Rattle.keeper.specs.declared.Loaded as declared
+use Rattle.keeper.specs.declared.Fed as declared-fed
+use Rattle.keeper.specs.Translate.{loadedOf, fedOf}
+
+-- ---- calls
+pub record LoadCall : Type 0 where
+  pub table : List ℕ
+  pub result : declared.Loaded
+
+-- "Each piece brings its own bytes and a reply buffer of any length and content"; `after` is the buffer as it is left
+pub record FeedCall : Type 0 where
+  pub bench : Bench
+  pub piece : Piece
+  pub result : declared-fed.Fed
+  pub after : List ℕ
+
+-- what a call gave, in the model's words
+abbrev pub gave : FeedCall → Fed
+gave c = fedOf (c .result) (c .after)
+
+abbrev pub pieces : List FeedCall → List Piece
+pieces cs = map (λ (c : FeedCall). c .piece) cs
+
+-- ---- "Each piece gets the bench that the one before it handed back", the first one b; "Nothing else alters the bench meanwhile"
+unfoldable pub Linked : Bench → List FeedCall → Type 0
+Linked b [] = Unit {0}
+Linked b (c ∷ cs) = (c .bench ≡ b) × Linked (c .result .bench) cs
+
+-- the bench that the last one handed back
+unfoldable pub last : Bench → List FeedCall → Bench
+last b [] = b
+last b (c ∷ cs) = last (c .result .bench) cs
+
+-- ---- what the contracts say of a call, and of each call of a list
+abbrev pub LoadMet : LoadCall → Type 0
+LoadMet l = loadedOf (l .result) ≡ loadOf (l .table)
+
+abbrev pub FeedMet : FeedCall → Type 0
+FeedMet c = gave c ≡ feedOf (stateOf (c .bench)) (c .piece)
+
+unfoldable pub AllMet : List FeedCall → Type 0
+AllMet [] = Unit {0}
+AllMet (c ∷ cs) = FeedMet c × AllMet cs
+
+-- ---- the claim for the calls cs from bench b, the bench of the table: the plain keeper is fed the table, then the joined bytes of the
+-- pieces taken
+pub record Agreed (table : List ℕ) (b : Bench) (cs : List FeedCall) : Type 0 where
+  -- the pieces refused are those over 4,096 bytes or without room
+  pub refused : map (λ (c : FeedCall). numberOf (c .result .answer)) cs ≡ refusals 0 (pieces cs)
+  pub replies : joined (map gave cs) ≡ repliesIn (run (loadOf table .state) (takenBytes 0 (pieces cs)) .log)
+  -- the whole bench, in every field
+  pub state : stateOf (last b cs) ≡ run (loadOf table .state) (takenBytes 0 (pieces cs)) .state
+  pub supply : let z = stateOf (last b cs) in Supply (z .wiring) (z .devices .status)
+  -- use count and counted puts are counted gets and runtime links whose consumer is powered
+  pub uses : let z = stateOf (last b cs) in let log = run (loadOf table .state) (takenBytes 0 (pieces cs)) .log in (q : ℕ) → q < z .wiring .n → usage z q + counted isPut q log ≡ counted isGet q log + linkCount (z .wiring) (z .devices .status) q
