@@ -21,7 +21,7 @@ pub enum Answer {
     Unsound,
     Long,
     Room,
-    Taken(usize),
+    Taken(u16),
 }
 
 // What a piece leads to beside the columns.
@@ -218,7 +218,7 @@ pub fn feed<'a>(
     );
     *carried = rest(held, have, piece, 4 * count);
     Fed {
-        answer: Answer::Taken(count),
+        answer: Answer::Taken(count as u16),
         callback: open,
         used: (total % 4) as u8,
     }

@@ -27,4 +27,4 @@ returns-4 : tie.Need-returns-4
 returns-4 c = record { is = λ h. let r = rw (c .before .before .before .before .before .before .before .before .before .before .before .before .before .before .before .before .wide .ensures) at (c .before .before .before .answer-all .ensures) in let z = sound-carry h _ _ nothing-carried in rw (c .rest .ensures, c .before .before .before .before .before .before .before .before .before .before .before .before .before .before .before .before .wide .ensures) (taken _ h _ _ (c .before .before .before .before .before .before .before .before .before .before .before .before .before .before .if2 .left) (rw (c .before .before .before .before .before .before .before .before .before .before .before .before .before .before .before .before .wide .ensures) at (c .before .before .before .before .before .before .before .before .before .before .before .before .before .if3 .left)) _ _ _ _ (r .state z) (r .buffer z)) }
 
 pub feed-spec : {M : Type 1} → statement M
-feed-spec = tie.close (tie.spec (λ c κs. search needs) (λ c κs. search needs) returns (λ c κs. search needs) returns-2 (λ c. search needs) (λ c. search needs) (λ c κs. search needs) returns-3 answer-all-requires (λ c. search needs) rest-requires (λ c. search needs) (λ c. search needs) returns-4)
+feed-spec = tie.close (tie.spec (λ c κs. search needs) (λ c κs. search needs) returns (λ c κs. search needs) returns-2 (λ c. search needs) (λ c. search needs) (λ c κs. search needs) returns-3 answer-all-requires (λ c. search needs) rest-requires (λ c. search needs) (λ c. search needs) (λ c. search needs) returns-4)
