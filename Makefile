@@ -1,14 +1,18 @@
 # make day       the library on the shipped tables, proved, built and run
 # make test      the gate: every check, ending with the toolchain's verdict
 # make sample    the definitions against the second implementation; SEED and COUNT choose the cases
-# make compare   the proved code against the second implementation; SEED, TABLES, BENCHES and RECORDS choose the cases
+# make compare   the proved code against the second implementation; SEED, TABLES, BENCHES, RECORDS and FEEDS choose the cases
+# make bench     the time of both over one log
 SEED ?= 1
 COUNT ?= 100
 TABLES ?= 100000
 BENCHES ?= 2000
 RECORDS ?= 30000
+FEEDS ?= 60000
+# one core for the times, where that can be asked for
+PIN := $(shell command -v taskset > /dev/null && echo taskset -c 0)
 
-.PHONY: day test listed second sample compare
+.PHONY: day test listed second sample harness compare bench
 .NOTPARALLEL:
 
 day:
@@ -30,9 +34,16 @@ second:
 sample:
 	tests/model/check $(SEED) $(COUNT)
 
-compare:
+# the proved code, linked with the second implementation
+harness:
 	rt staticlib exports
 	cd tests/compare && cargo build --release --offline --quiet
+
+compare: harness
 	tests/compare/target/release/compare tables $(SEED) $(TABLES)
 	tests/compare/target/release/compare benches $(SEED) $(BENCHES)
 	tests/compare/target/release/compare records $(SEED) $(RECORDS)
+	tests/compare/target/release/compare feed $(SEED) $(FEEDS)
+
+bench: harness
+	$(PIN) tests/compare/target/release/compare bench

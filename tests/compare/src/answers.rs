@@ -90,8 +90,8 @@ impl Tally {
         }
     }
 
-    /// The counts on one line, or an answer that was missed or that document 01 doesn't give.
-    pub fn line(&self, benches: u64) -> Result<String, String> {
+    /// Every answer that document 01 gives was met, if there were enough benches, and no other.
+    pub fn complete(&self, benches: u64) -> Result<(), String> {
         for (row, counts) in self.answers.iter().enumerate() {
             for (class, &count) in counts.iter().enumerate() {
                 let what = || format!("{}, answer {}", GIVEN[row].0, CLASSES[class]);
@@ -105,14 +105,15 @@ impl Tally {
         if benches >= ENOUGH && self.beyond == 0 {
             return Err(format!("use count beyond {MAX_HOLDS}: never met"));
         }
-        Ok(self.shown())
+        Ok(())
     }
 
     pub fn most_used(&self) -> u32 {
         self.most_used
     }
 
-    fn shown(&self) -> String {
+    /// The counts on one line.
+    pub fn line(&self) -> String {
         let records: u64 = self.answers.iter().flatten().sum();
         let mut line = format!(
             "{records} records, greatest use count {}, beyond {MAX_HOLDS}: {}",

@@ -98,18 +98,13 @@ fn verdicts(random: &mut Random, bench: &Bench) -> Result<Vec<bool>, String> {
 /// How many members the wake set of a device has, or how the two differ.
 fn same(bench: &Bench, device: u8) -> Result<u64, String> {
     let right = bench.wake_set(device.into());
-    let members = keeper::wake_set(bench, device);
-    if members != right {
-        return Err(format!(
-            "wake set {:?}, not {:?}",
-            listed(&members),
-            listed(&right)
-        ));
+    let members = listed(&keeper::wake_set(bench, device));
+    let expected: Vec<usize> = right.devices().collect();
+    if members != expected {
+        return Err(format!("wake set {members:?}, not {expected:?}"));
     }
     let lowest = keeper::lowest(bench, device);
-    let expected = bench
-        .lowest_to_wake(device.into())
-        .unwrap_or(bench.n.into());
+    let expected = right.lowest().unwrap_or(bench.n.into());
     if usize::from(lowest) != expected {
         return Err(format!("lowest {lowest}, not {expected}"));
     }
@@ -121,7 +116,7 @@ fn same(bench: &Bench, device: u8) -> Result<u64, String> {
     for status in 0..4 {
         same_counts(bench, device, status)?;
     }
-    Ok(listed(&members).len() as u64)
+    Ok(members.len() as u64)
 }
 
 /// The counts after a change of status are the recounts.
@@ -129,12 +124,10 @@ fn same_counts(bench: &Bench, device: u8, status: u8) -> Result<(), String> {
     let turned = keeper::set_status(bench, device, status);
     let mut right = bench.clone();
     right.status[usize::from(device)] = status;
+    let (children, linked) = right.recount();
     for row in 0..right.status.len() {
-        let expected = (right.recount_children(row), right.recount_links(row));
-        let counts = (
-            usize::from(turned.children[row]),
-            usize::from(turned.linked[row]),
-        );
+        let expected = (children[row], linked[row]);
+        let counts = (u16::from(turned.children[row]), turned.linked[row]);
         if counts != expected || turned.status[row] != right.status[row] {
             return Err(format!(
                 "status {status}, row {row}: counts {counts:?}, not {expected:?}"
@@ -144,7 +137,7 @@ fn same_counts(bench: &Bench, device: u8, status: u8) -> Result<(), String> {
     Ok(())
 }
 
-/// The devices of a set.
+/// The marked devices.
 fn listed(marks: &keeper::Marks) -> Vec<usize> {
     (0..marks.len()).filter(|&device| marks[device]).collect()
 }

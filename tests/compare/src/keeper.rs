@@ -116,6 +116,26 @@ extern "C" {
         device: u8,
         value: u16,
     ) -> u64;
+    fn keeper_feed(
+        parent: &DeviceBytes,
+        ignore: &mut DeviceBytes,
+        consumer: &LinkBytes,
+        supplier: &LinkBytes,
+        flags: &LinkBytes,
+        n: u8,
+        m: u16,
+        status: &mut DeviceBytes,
+        holds: &mut Column,
+        depth: &mut DeviceBytes,
+        error: &mut Column,
+        children: &mut DeviceBytes,
+        linked: &mut Column,
+        scalars: &mut [u8; 7],
+        piece: *const u8,
+        piece_length: usize,
+        replies: *mut u8,
+        replies_length: usize,
+    ) -> u32;
 }
 
 /// The wake set of a device.
@@ -257,4 +277,102 @@ pub fn step(b: &mut Bench, record: [u8; 4]) -> [u8; 4] {
     assert_eq!(rest, 0, "the answer has seven bytes");
     (b.callback, b.asked, b.target) = (callback, asked, target);
     [kind, device, low, high]
+}
+
+/// A bench as the keeper is lent it. Child counts have a byte here.
+#[derive(Clone, PartialEq)]
+pub struct Columns {
+    parent: DeviceBytes,
+    ignore: DeviceBytes,
+    consumer: LinkBytes,
+    supplier: LinkBytes,
+    flags: LinkBytes,
+    n: u8,
+    m: u16,
+    status: DeviceBytes,
+    holds: Column,
+    depth: DeviceBytes,
+    error: Column,
+    children: DeviceBytes,
+    linked: Column,
+    /// The open callback's kind, the device asked and the target; three carried
+    /// bytes and their number.
+    scalars: [u8; 7],
+}
+
+impl From<&Bench> for Columns {
+    fn from(b: &Bench) -> Columns {
+        let [first, second, third] = b.carried;
+        Columns {
+            parent: b.parent,
+            ignore: b.ignore,
+            consumer: b.consumer,
+            supplier: b.supplier,
+            flags: b.flags,
+            n: b.n,
+            m: b.m.into(),
+            status: b.status,
+            holds: b.holds,
+            depth: b.depth,
+            error: b.error,
+            children: b.children.map(|count| count as u8),
+            linked: b.linked,
+            scalars: [b.callback, b.asked, b.target, first, second, third, b.count],
+        }
+    }
+}
+
+impl Columns {
+    /// The bench that has these columns and the table of another.
+    pub fn bench(&self, table: &Bench) -> Bench {
+        let [callback, asked, target, first, second, third, count] = self.scalars;
+        Bench {
+            ignore: self.ignore,
+            status: self.status,
+            holds: self.holds,
+            depth: self.depth,
+            error: self.error,
+            children: self.children.map(u16::from),
+            linked: self.linked,
+            callback,
+            asked,
+            target,
+            carried: [first, second, third],
+            count,
+            ..table.clone()
+        }
+    }
+
+    /// A piece of log: how many replies were written, or the refusal's number (with 256 times the
+    /// number of replies, which there are none of).
+    pub fn feed(&mut self, piece: &[u8], replies: &mut [u8]) -> Result<usize, u32> {
+        // SAFETY: the function reads the columns and the piece, writes the seven
+        // columns lent for that, the scalars and the replies, and nothing else.
+        let answer = unsafe {
+            keeper_feed(
+                &self.parent,
+                &mut self.ignore,
+                &self.consumer,
+                &self.supplier,
+                &self.flags,
+                self.n,
+                self.m,
+                &mut self.status,
+                &mut self.holds,
+                &mut self.depth,
+                &mut self.error,
+                &mut self.children,
+                &mut self.linked,
+                &mut self.scalars,
+                piece.as_ptr(),
+                piece.len(),
+                replies.as_mut_ptr(),
+                replies.len(),
+            )
+        };
+        match answer % 256 {
+            0 => Ok(answer as usize / 256),
+            _ => Err(answer),
+        }
+    }
 }

@@ -1,15 +1,20 @@
 //! Compares the proved keeper with the second implementation.
 //!
 //! `compare tables SEED COUNT` loads random tables with both,
-//! `compare benches SEED COUNT` asks both about random benches, and
+//! `compare benches SEED COUNT` asks both about random benches,
 //! `compare records SEED COUNT` gives both random logs, a record at a time, from
-//! so many random benches. It ends with status 1 at the first difference, and
-//! where the logs of 200 benches or more leave out an answer of document 01.
+//! so many random benches; `compare feed SEED COUNT` gives them so many logs in
+//! random pieces. It ends with status 1 at the first difference, and where the
+//! logs of 200 benches or more leave out an answer of document 01.
+//! `compare bench` times both.
 
 mod answers;
 mod benches;
+mod feed;
 mod keeper;
+mod logs;
 mod records;
+mod speed;
 mod starts;
 mod tables;
 
@@ -17,16 +22,10 @@ use std::process::ExitCode;
 
 fn main() -> ExitCode {
     let words: Vec<String> = std::env::args().skip(1).collect();
-    let Some((what, seed, count)) = request(&words) else {
-        eprintln!("usage: compare tables|benches|records SEED COUNT");
+    let words: Vec<&str> = words.iter().map(String::as_str).collect();
+    let Some(outcome) = outcome(&words) else {
+        eprintln!("usage: compare tables|benches|records|feed SEED COUNT, or compare bench");
         return ExitCode::from(2);
-    };
-    let outcome = match what {
-        "tables" => tables::compare(seed, count)
-            .map(|tally| tally.to_string())
-            .map_err(|difference| difference.to_string()),
-        "benches" => benches::compare(seed, count),
-        _ => records::compare(seed, count),
     };
     match outcome {
         Ok(tally) => {
@@ -40,11 +39,22 @@ fn main() -> ExitCode {
     }
 }
 
-/// What to compare, the seed and the count.
-fn request(words: &[String]) -> Option<(&str, u64, u64)> {
-    let [what, seed, count] = words else {
-        return None;
+/// What a comparison says; none where the words ask for none.
+fn outcome(words: &[&str]) -> Option<Result<String, String>> {
+    let (what, seed, count) = match words {
+        ["bench"] => return Some(speed::compare()),
+        [what, seed, count] => (what, seed.parse().ok()?, count.parse().ok()?),
+        _ => return None,
     };
-    let known = ["tables", "benches", "records"].contains(&what.as_str());
-    known.then_some((what, seed.parse().ok()?, count.parse().ok()?))
+    match *what {
+        "tables" => Some(
+            tables::compare(seed, count)
+                .map(|tally| tally.to_string())
+                .map_err(|difference| difference.to_string()),
+        ),
+        "benches" => Some(benches::compare(seed, count)),
+        "records" => Some(records::compare(seed, count)),
+        "feed" => Some(feed::compare(seed, count)),
+        _ => None,
+    }
 }

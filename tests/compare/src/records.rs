@@ -23,6 +23,7 @@ pub fn compare(seed: u64, count: u64) -> Result<String, String> {
         log(&mut random, &mut tally, start, bench)
             .map_err(|what| format!("seed {seed}, bench {number}: {what}"))?;
     }
+    tally.complete(count)?;
     let sorts: Vec<String> = (starts::ALL.iter().zip(sorts))
         .map(|((_, name), count)| format!("{name} {count}"))
         .collect();
@@ -30,7 +31,7 @@ pub fn compare(seed: u64, count: u64) -> Result<String, String> {
     Ok(format!(
         "records: {count} benches ({}; open at the start: none {none}, suspend {suspend}, resume {resume}, idle {idle}), {}",
         sorts.join(", "),
-        tally.line(count)?
+        tally.line()
     ))
 }
 
@@ -62,20 +63,25 @@ fn most_used() -> Result<(), String> {
 fn log(random: &mut Random, tally: &mut Tally, start: Start, bench: Bench) -> Result<(), String> {
     let mut pair = Pair::new(bench, tally);
     pair.sound()?;
-    if start == Start::Loaded && random.percent(85) {
-        let enabled = (0..pair.second.n).filter(|_| random.percent(93));
-        pair.send_each(enabled.map(|device| write(1, device, 0)))?;
+    if start == Start::Loaded {
+        pair.send_each(enabling(random, &pair.second))?;
     }
-    let writer = match start {
-        Start::Crowded => Writer::About(0),
-        _ => any_writer(random, &pair.second),
-    };
+    let writer = Writer::from(random, start, &pair.second);
     for number in 0..random.from_to(1, 800) {
         let record = writer.next(random, &pair.second);
         pair.send(record)
             .map_err(|what| format!("record {number}: {what}"))?;
     }
     pair.sound()
+}
+
+/// Mostly records that enable the devices, now and then leaving one out.
+pub fn enabling(random: &mut Random, bench: &Bench) -> Vec<[u8; 4]> {
+    if !random.percent(85) {
+        return Vec::new();
+    }
+    let enabled = (0..bench.n).filter(|_| random.percent(93));
+    enabled.map(|device| write(1, device, 0)).collect()
 }
 
 /// A bench of each keeper.
@@ -129,7 +135,7 @@ impl<'a> Pair<'a> {
 }
 
 /// The first field in which two benches differ.
-fn difference(bench: &Bench, right: &Bench) -> String {
+pub fn difference(bench: &Bench, right: &Bench) -> String {
     for (which, name) in (0..).zip(tables::NAMES) {
         let column = tables::expected(bench, which);
         let expected = tables::expected(right, which);
@@ -144,7 +150,7 @@ fn difference(bench: &Bench, right: &Bench) -> String {
 
 /// Who writes the records of a log.
 #[derive(Clone, Copy)]
-enum Writer {
+pub enum Writer {
     /// A host of the second implementation's cases.
     Host(Host),
     /// A host whose callbacks fail with each code as often.
@@ -155,23 +161,31 @@ enum Writer {
     Bytes,
 }
 
-fn any_writer(random: &mut Random, bench: &Bench) -> Writer {
-    match random.below(10) {
-        0..=5 => Writer::Host(any_host(random)),
-        6 | 7 => Writer::Failing,
-        8 => {
-            let device = random.below(bench.n.into()) as u8;
-            Writer::About(random.one_of(&[device, bench.n - 1]))
-        }
-        _ => Writer::Bytes,
-    }
-}
-
 impl Writer {
+    /// Who writes a log from a bench of this sort.
+    pub fn from(random: &mut Random, start: Start, bench: &Bench) -> Writer {
+        match start {
+            Start::Crowded => Writer::About(0),
+            _ => Writer::any(random, bench),
+        }
+    }
+
+    fn any(random: &mut Random, bench: &Bench) -> Writer {
+        match random.below(10) {
+            0..=5 => Writer::Host(any_host(random)),
+            6 | 7 => Writer::Failing,
+            8 => {
+                let device = random.below(bench.n.into()) as u8;
+                Writer::About(random.one_of(&[device, bench.n - 1]))
+            }
+            _ => Writer::Bytes,
+        }
+    }
+
     /// The next record; now and then another writes it.
-    fn next(self, random: &mut Random, bench: &Bench) -> [u8; 4] {
+    pub fn next(self, random: &mut Random, bench: &Bench) -> [u8; 4] {
         let writer = if random.percent(12) {
-            any_writer(random, bench)
+            Writer::any(random, bench)
         } else {
             self
         };

@@ -143,51 +143,36 @@ impl Bench {
             .filter(|&parent| self.ignore[parent] == 0)
     }
 
+    /// The devices in use.
+    pub fn devices(&self) -> std::ops::Range<usize> {
+        0..usize::from(self.n)
+    }
+
     /// The rows of the links in use.
     pub fn link_rows(&self) -> std::ops::Range<usize> {
         0..usize::from(self.m).min(LINK_ROWS)
     }
 
-    /// Does this row hold a runtime link of that consumer?
-    fn feeds(&self, row: usize, consumer: usize) -> bool {
-        self.flags[row] & RUNTIME != 0 && usize::from(self.consumer[row]) == consumer
-    }
-
-    /// Document 01: suppliers, by runtime links only.
-    pub fn suppliers(&self, consumer: usize) -> impl Iterator<Item = usize> + '_ {
+    /// The rows of the runtime links.
+    pub fn runtime_links(&self) -> impl Iterator<Item = usize> + '_ {
         self.link_rows()
-            .filter(move |&row| self.feeds(row, consumer))
-            .map(|row| usize::from(self.supplier[row]))
+            .filter(|&row| self.flags[row] & RUNTIME != 0)
     }
 
-    /// Changes a status; a change of powered status moves the counts.
-    pub(crate) fn set_status(&mut self, device: usize, status: u8) {
-        let before = self.powered(device);
-        self.status[device] = status;
-        let after = self.powered(device);
-        if before != after {
-            self.move_counts(device, after);
-        }
-    }
-
-    /// Raises or lowers the parent's child count and the suppliers' link counts.
-    fn move_counts(&mut self, device: usize, up: bool) {
-        if let Some(parent) = self.parent_of(device) {
-            step(&mut self.children[parent], up);
-        }
-        for row in self.link_rows() {
-            if self.feeds(row, device) {
-                step(&mut self.linked[usize::from(self.supplier[row])], up);
+    /// The child counts and the link counts, counted anew.
+    pub fn recount(&self) -> ([u16; DEVICE_ROWS], [u16; DEVICE_ROWS]) {
+        let mut children = [0; DEVICE_ROWS];
+        for child in self.devices().filter(|&device| self.powered(device)) {
+            if let Some(parent) = self.parent_of(child) {
+                children[parent] += 1;
             }
         }
+        let mut linked = [0; DEVICE_ROWS];
+        for row in self.runtime_links() {
+            if self.powered(self.consumer[row].into()) {
+                linked[usize::from(self.supplier[row])] += 1;
+            }
+        }
+        (children, linked)
     }
-}
-
-/// One more or one less. It wraps only on a bench that isn't sound.
-fn step(count: &mut u16, up: bool) {
-    *count = if up {
-        count.wrapping_add(1)
-    } else {
-        count.wrapping_sub(1)
-    };
 }

@@ -1,6 +1,7 @@
 //! Feeding pieces of a log.
 
 use crate::bench::*;
+use crate::record::Keeper;
 
 /// The longest piece.
 pub const MAX_PIECE: usize = 4_096;
@@ -9,9 +10,7 @@ impl Bench {
     /// Document 01: a piece. Answers how many replies were written; a refused
     /// piece (21, 22, 23) leaves the bench and the reply buffer untouched.
     pub fn feed(&mut self, piece: &[u8], replies: &mut [u8]) -> Result<usize, u8> {
-        if !self.sound() {
-            return Err(21);
-        }
+        let sets = self.sound_sets().ok_or(21)?;
         if piece.len() > MAX_PIECE {
             return Err(22);
         }
@@ -19,24 +18,45 @@ impl Bench {
         if replies.len() < 4 * whole {
             return Err(23);
         }
-        let mut room = replies.chunks_exact_mut(4);
-        for reply in piece.iter().filter_map(|&byte| self.byte(byte)) {
-            room.next()
-                .expect("room was tested")
-                .copy_from_slice(&reply);
+        let (first, piece) = self.complete(piece);
+        let (records, rest) = piece.as_chunks();
+        self.carry(rest);
+        let (mut replies, _) = replies.as_chunks_mut();
+        let mut keeper = Keeper::new(self, sets);
+        if let Some(record) = first {
+            let [reply, after @ ..] = replies else {
+                unreachable!("there is room for every reply")
+            };
+            *reply = keeper.record(record);
+            replies = after;
+        }
+        for (record, reply) in records.iter().zip(replies) {
+            *reply = keeper.record(*record);
         }
         Ok(whole)
     }
 
-    /// One byte: it waits, or as the fourth completes a record.
-    fn byte(&mut self, byte: u8) -> Option<[u8; 4]> {
-        if self.count < 3 {
-            self.carried[usize::from(self.count)] = byte;
-            self.count += 1;
-            return None;
+    /// Takes the carried bytes, if the first bytes of a piece complete them to
+    /// a record: the record and the bytes after it.
+    fn complete<'p>(&mut self, piece: &'p [u8]) -> (Option<[u8; 4]>, &'p [u8]) {
+        let count = usize::from(self.count);
+        match piece.split_at_checked(4 - count) {
+            Some((end, after)) if count > 0 => {
+                let mut record = [0; 4];
+                record[..count].copy_from_slice(&self.carried[..count]);
+                record[count..].copy_from_slice(end);
+                self.carried = [0; 3];
+                self.count = 0;
+                (Some(record), after)
+            }
+            _ => (None, piece),
         }
-        let [a, b, c] = std::mem::take(&mut self.carried);
-        self.count = 0;
-        Some(self.record([a, b, c, byte]))
+    }
+
+    /// Carries bytes that make no whole record, behind those carried.
+    fn carry(&mut self, rest: &[u8]) {
+        let unused = &mut self.carried[usize::from(self.count)..];
+        unused[..rest.len()].copy_from_slice(rest);
+        self.count += rest.len() as u8;
     }
 }

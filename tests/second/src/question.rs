@@ -38,7 +38,7 @@ impl Bench {
     /// Document 01: wake set. Is the second device a member of the first's?
     pub fn wakes_with(&self, device: u8, second: u8) -> Result<bool, u8> {
         let row = self.row(device)?;
-        Ok(self.wake_set(row)[self.row(second)?])
+        Ok(self.wake_set(row).contains(self.row(second)?))
     }
 
     /// Document 01: how many parents stand above a part.

@@ -1,6 +1,7 @@
 //! Records and their replies.
 
 use crate::bench::*;
+use crate::wake::Sets;
 
 /// Reply kind 0: finished with a code.
 pub const FINISHED: u8 = 0;
@@ -24,8 +25,50 @@ fn finished(device: usize, code: i16) -> [u8; 4] {
     [FINISHED, device as u8, low, high]
 }
 
+/// One more or one less.
+fn step(count: &mut u16, up: bool) {
+    *count = if up { *count + 1 } else { *count - 1 };
+}
+
 impl Bench {
     /// Document 01: one record and its one reply. The bench must be sound.
+    pub fn record(&mut self, record: [u8; 4]) -> [u8; 4] {
+        let sets = Sets::of(self);
+        Keeper::new(self, sets).record(record)
+    }
+
+    /// Document 01: the suspend test. The code of the first fault, if any.
+    pub(crate) fn suspend_test(&self, device: usize) -> Option<i16> {
+        if self.error[device] != 0 {
+            Some(-EINVAL)
+        } else if self.depth[device] > 0 || self.usage(device) > 0 {
+            Some(-EAGAIN)
+        } else if self.children[device] > 0 && self.ignore[device] == 0 {
+            Some(-EBUSY)
+        } else {
+            None
+        }
+    }
+
+    /// Has the device an error, or is it disabled?
+    pub(crate) fn unfit(&self, device: usize) -> bool {
+        self.error[device] != 0 || self.depth[device] > 0
+    }
+}
+
+/// A sound bench that takes records, and the sets of its devices.
+pub(crate) struct Keeper<'a> {
+    bench: &'a mut Bench,
+    sets: Sets,
+}
+
+impl<'a> Keeper<'a> {
+    /// The sets are the bench's own.
+    pub fn new(bench: &'a mut Bench, sets: Sets) -> Keeper<'a> {
+        Keeper { bench, sets }
+    }
+
+    /// Document 01: one record and its one reply.
     pub fn record(&mut self, record: [u8; 4]) -> [u8; 4] {
         let [kind, part, low, high] = record;
         let value = i16::from_le_bytes([low, high]);
@@ -33,7 +76,7 @@ impl Bench {
             return [REFUSED, part, number, 0];
         }
         let device = usize::from(part);
-        if kind != RESULT && self.callback != NO_CALLBACK {
+        if kind != RESULT && self.bench.callback != NO_CALLBACK {
             return finished(device, -EINPROGRESS);
         }
         self.request(kind, device, value)
@@ -44,17 +87,17 @@ impl Bench {
         if !(1..=RESULT).contains(&kind) {
             return Some(11);
         }
-        if part >= self.n {
+        if part >= self.bench.n {
             return Some(12);
         }
         let (least, greatest) = BOUNDS[usize::from(kind)];
         if value < least || value > greatest {
             return Some(13);
         }
-        if kind == RESULT && self.callback == NO_CALLBACK {
+        if kind == RESULT && self.bench.callback == NO_CALLBACK {
             return Some(14);
         }
-        (kind == RESULT && part != self.asked).then_some(15)
+        (kind == RESULT && part != self.bench.asked).then_some(15)
     }
 
     /// A well-formed record whose turn has come.
@@ -76,26 +119,49 @@ impl Bench {
         }
     }
 
+    /// Changes a status; a change of powered status moves the parent's child
+    /// count and the suppliers' link counts.
+    fn set_status(&mut self, device: usize, status: u8) {
+        let bench = &mut *self.bench;
+        let before = bench.powered(device);
+        bench.status[device] = status;
+        let up = bench.powered(device);
+        if before == up {
+            return;
+        }
+        if up {
+            self.sets.sleeping.remove(device);
+        } else {
+            self.sets.sleeping.insert(device);
+        }
+        if let Some(parent) = bench.parent_of(device) {
+            step(&mut bench.children[parent], up);
+        }
+        for supplier in self.sets.suppliers[device].devices() {
+            step(&mut bench.linked[supplier], up);
+        }
+    }
+
     /// Opens a callback and asks the host to run it.
     fn ask(&mut self, callback: u8, asked: usize, target: usize) -> [u8; 4] {
-        self.callback = callback;
-        self.asked = asked as u8;
-        self.target = target as u8;
-        [callback, self.asked, 0, 0]
+        self.bench.callback = callback;
+        self.bench.asked = asked as u8;
+        self.bench.target = target as u8;
+        [callback, asked as u8, 0, 0]
     }
 
     /// Closes the open callback.
     fn close(&mut self) {
-        self.callback = NO_CALLBACK;
-        self.asked = 0;
-        self.target = 0;
+        self.bench.callback = NO_CALLBACK;
+        self.bench.asked = 0;
+        self.bench.target = 0;
     }
 
     /// Kind 1, enable.
     fn enable(&mut self, device: usize) -> [u8; 4] {
-        match self.depth[device].checked_sub(1) {
+        match self.bench.depth[device].checked_sub(1) {
             Some(depth) => {
-                self.depth[device] = depth;
+                self.bench.depth[device] = depth;
                 finished(device, 0)
             }
             None => finished(device, -EOVERFLOW),
@@ -104,9 +170,9 @@ impl Bench {
 
     /// Kind 2, disable.
     fn disable(&mut self, device: usize) -> [u8; 4] {
-        match self.depth[device].checked_add(1) {
+        match self.bench.depth[device].checked_add(1) {
             Some(depth) => {
-                self.depth[device] = depth;
+                self.bench.depth[device] = depth;
                 finished(device, 0)
             }
             None => finished(device, -EOVERFLOW),
@@ -115,19 +181,17 @@ impl Bench {
 
     /// One user hold more, if there is room.
     fn raise_holds(&mut self, device: usize) -> bool {
-        let room = self.holds[device] < MAX_HOLDS;
-        if room {
-            self.holds[device] += 1;
-        }
+        let holds = &mut self.bench.holds[device];
+        let room = *holds < MAX_HOLDS;
+        *holds += u16::from(room);
         room
     }
 
     /// One user hold less, if there is one.
     fn lower_holds(&mut self, device: usize) -> bool {
-        let held = self.holds[device] > 0;
-        if held {
-            self.holds[device] -= 1;
-        }
+        let holds = &mut self.bench.holds[device];
+        let held = *holds > 0;
+        *holds -= u16::from(held);
         held
     }
 
@@ -169,25 +233,12 @@ impl Bench {
         }
     }
 
-    /// Document 01: the suspend test. The code of the first fault, if any.
-    pub(crate) fn suspend_test(&self, device: usize) -> Option<i16> {
-        if self.error[device] != 0 {
-            Some(-EINVAL)
-        } else if self.depth[device] > 0 || self.usage(device) > 0 {
-            Some(-EAGAIN)
-        } else if self.children[device] > 0 && self.ignore[device] == 0 {
-            Some(-EBUSY)
-        } else {
-            None
-        }
-    }
-
     /// Kind 7, idle.
     fn idle(&mut self, device: usize) -> [u8; 4] {
-        if let Some(code) = self.suspend_test(device) {
+        if let Some(code) = self.bench.suspend_test(device) {
             return finished(device, code);
         }
-        if self.status[device] != ACTIVE {
+        if self.bench.status[device] != ACTIVE {
             return finished(device, -EAGAIN);
         }
         self.ask(IDLE_CALLBACK, device, device)
@@ -195,10 +246,10 @@ impl Bench {
 
     /// Kind 8, suspend.
     fn suspend(&mut self, device: usize) -> [u8; 4] {
-        if let Some(code) = self.suspend_test(device) {
+        if let Some(code) = self.bench.suspend_test(device) {
             return finished(device, code);
         }
-        if self.status[device] == SUSPENDED {
+        if self.bench.status[device] == SUSPENDED {
             return finished(device, 1);
         }
         self.start_suspend(device)
@@ -210,38 +261,28 @@ impl Bench {
         self.ask(SUSPEND_CALLBACK, device, device)
     }
 
-    /// Has the device an error, or is it disabled?
-    pub(crate) fn unfit(&self, device: usize) -> bool {
-        self.error[device] != 0 || self.depth[device] > 0
-    }
-
-    /// Has any member of the wake set an error or a disable depth above 0?
-    pub(crate) fn wake_blocked(&self, target: usize) -> bool {
-        let set = self.wake_set(target);
-        (0..DEVICE_ROWS).any(|member| set[member] && self.unfit(member))
-    }
-
     /// Kind 9, wake.
     fn wake(&mut self, device: usize) -> [u8; 4] {
-        if self.error[device] != 0 {
+        if self.bench.error[device] != 0 {
             return finished(device, -EINVAL);
         }
-        if self.depth[device] > 0 {
+        if self.bench.depth[device] > 0 {
             return finished(device, -EAGAIN);
         }
-        if self.status[device] == ACTIVE {
+        if self.bench.status[device] == ACTIVE {
             return finished(device, 1);
         }
-        if self.wake_blocked(device) {
+        let members = self.sets.wake_set(self.bench, device);
+        if members.devices().any(|member| self.bench.unfit(member)) {
             return finished(device, -EBUSY);
         }
-        self.wake_next(device)
+        self.wake_next(members.lowest(), device)
     }
 
-    /// The lowest member of the target's wake set turns resuming and is asked;
-    /// with none left the wake is finished.
-    fn wake_next(&mut self, target: usize) -> [u8; 4] {
-        match self.lowest_to_wake(target) {
+    /// A member of the target's wake set turns resuming and is asked; with
+    /// none left the wake is finished.
+    fn wake_next(&mut self, member: Option<usize>, target: usize) -> [u8; 4] {
+        match member {
             Some(member) => {
                 self.set_status(member, RESUMING);
                 self.ask(RESUME_CALLBACK, member, target)
@@ -255,7 +296,7 @@ impl Bench {
 
     /// Kinds 10 and 11 need a disabled device or one with an error.
     fn status_locked(&self, device: usize) -> bool {
-        !self.unfit(device)
+        !self.bench.unfit(device)
     }
 
     /// Kind 10, set active.
@@ -263,9 +304,9 @@ impl Bench {
         if self.status_locked(device) {
             return finished(device, -EAGAIN);
         }
-        let not_active = |above| self.status[above] != ACTIVE;
-        if self.counting_parent(device).is_some_and(not_active)
-            || self.suppliers(device).any(not_active)
+        let not_active = |above| self.bench.status[above] != ACTIVE;
+        if self.bench.counting_parent(device).is_some_and(not_active)
+            || self.sets.suppliers[device].devices().any(not_active)
         {
             return finished(device, -EBUSY);
         }
@@ -277,8 +318,8 @@ impl Bench {
         if self.status_locked(device) {
             return finished(device, -EAGAIN);
         }
-        let counted_children = self.children[device] > 0 && self.ignore[device] == 0;
-        if counted_children || self.linked[device] > 0 {
+        let counted_children = self.bench.children[device] > 0 && self.bench.ignore[device] == 0;
+        if counted_children || self.bench.linked[device] > 0 {
             return finished(device, -EBUSY);
         }
         self.force(device, SUSPENDED)
@@ -287,22 +328,23 @@ impl Bench {
     /// The status is set without a callback, and the error is cleared.
     fn force(&mut self, device: usize, status: u8) -> [u8; 4] {
         self.set_status(device, status);
-        self.error[device] = 0;
+        self.bench.error[device] = 0;
         finished(device, 0)
     }
 
     /// Kind 12, ignore children.
     fn ignore_children(&mut self, device: usize, value: i16) -> [u8; 4] {
-        if value == 0 && self.status[device] != ACTIVE && self.children[device] > 0 {
+        let bench = &mut *self.bench;
+        if value == 0 && bench.status[device] != ACTIVE && bench.children[device] > 0 {
             return finished(device, -EBUSY);
         }
-        self.ignore[device] = u8::from(value != 0);
+        bench.ignore[device] = u8::from(value != 0);
         finished(device, 0)
     }
 
     /// Kind 13, result, for the device asked.
     fn result(&mut self, value: i16) -> [u8; 4] {
-        match self.callback {
+        match self.bench.callback {
             IDLE_CALLBACK => self.idle_result(value),
             SUSPEND_CALLBACK => self.suspend_result(value),
             _ => self.resume_result(value),
@@ -311,7 +353,7 @@ impl Bench {
 
     /// The idle callback's result: 0 goes on to suspend.
     fn idle_result(&mut self, value: i16) -> [u8; 4] {
-        let device = usize::from(self.asked);
+        let device = usize::from(self.bench.asked);
         if value == 0 {
             return self.start_suspend(device);
         }
@@ -321,11 +363,11 @@ impl Bench {
 
     /// The suspend callback's result. -11 and -16 are no lasting errors.
     fn suspend_result(&mut self, value: i16) -> [u8; 4] {
-        let device = usize::from(self.asked);
+        let device = usize::from(self.bench.asked);
         let status = if value == 0 { SUSPENDED } else { ACTIVE };
         self.set_status(device, status);
         if value != -EAGAIN && value != -EBUSY {
-            self.error[device] = value.unsigned_abs();
+            self.bench.error[device] = value.unsigned_abs();
         }
         self.close();
         finished(device, value)
@@ -333,13 +375,15 @@ impl Bench {
 
     /// The resume callback's result: on to the next member, or an error.
     fn resume_result(&mut self, value: i16) -> [u8; 4] {
-        let (asked, target) = (usize::from(self.asked), usize::from(self.target));
+        let asked = usize::from(self.bench.asked);
+        let target = usize::from(self.bench.target);
         if value == 0 {
             self.set_status(asked, ACTIVE);
-            return self.wake_next(target);
+            let members = self.sets.wake_set(self.bench, target);
+            return self.wake_next(members.lowest(), target);
         }
         self.set_status(asked, SUSPENDED);
-        self.error[asked] = value.unsigned_abs();
+        self.bench.error[asked] = value.unsigned_abs();
         self.close();
         finished(target, if asked == target { value } else { -EBUSY })
     }

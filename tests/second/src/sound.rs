@@ -2,24 +2,33 @@
 
 use crate::bench::*;
 use crate::table::{ascends, device_entry_good, link_entry_good};
+use crate::wake::Sets;
+
+/// Is every value zero? Without an early end several are looked at at once.
+fn all_zero<T: Copy + Into<u16>>(values: &[T]) -> bool {
+    values.iter().fold(0, |any, &value| any | value.into()) == 0
+}
 
 impl Bench {
     /// Document 01: sound. Every clause of the sentence, in its order.
     pub fn sound(&self) -> bool {
-        self.sizes_sound()
+        self.sound_sets().is_some()
+    }
+
+    /// The sets of a sound bench; none where it isn't sound.
+    pub(crate) fn sound_sets(&self) -> Option<Sets> {
+        let columns_sound = self.sizes_sound()
             && self.devices_sound()
             && self.links_sound()
             && self.unused_rows_zero()
             && self.ranges_sound()
-            && self.counts_sound()
-            && self.supply_sound()
-            && self.carried_sound()
-            && self.callback_sound()
-    }
-
-    /// The devices in use.
-    fn devices(&self) -> std::ops::Range<usize> {
-        0..usize::from(self.n)
+            && self.recount() == (self.children, self.linked);
+        if !columns_sound {
+            return None;
+        }
+        let sets = Sets::of(self);
+        let sound = self.supply_sound(&sets) && self.carried_sound() && self.callback_sound(&sets);
+        sound.then_some(sets)
     }
 
     /// n from 1 to 64, m from 0 to 128.
@@ -35,39 +44,31 @@ impl Bench {
         })
     }
 
-    /// The pair of a link.
-    fn pair(&self, row: usize) -> (u8, u8) {
-        (self.consumer[row], self.supplier[row])
-    }
-
     /// The link entries keep the table's rules, their order too.
     fn links_sound(&self) -> bool {
+        let mut before = None;
         self.link_rows().all(|row| {
-            let before = row.checked_sub(1).map(|earlier| self.pair(earlier));
-            link_entry_good(self.n, self.pair(row), self.flags[row])
-                && ascends(before, self.pair(row))
+            let pair = (self.consumer[row], self.supplier[row]);
+            let good = link_entry_good(self.n, pair, self.flags[row]) && ascends(before, pair);
+            before = Some(pair);
+            good
         })
     }
 
     /// Rows past n and past m are zero in every column.
     fn unused_rows_zero(&self) -> bool {
-        (usize::from(self.n)..DEVICE_ROWS).all(|row| self.device_row_zero(row))
-            && (usize::from(self.m)..LINK_ROWS).all(|row| self.link_row_zero(row))
-    }
-
-    fn device_row_zero(&self, row: usize) -> bool {
-        self.parent[row] == 0
-            && self.ignore[row] == 0
-            && self.status[row] == 0
-            && self.holds[row] == 0
-            && self.depth[row] == 0
-            && self.error[row] == 0
-            && self.children[row] == 0
-            && self.linked[row] == 0
-    }
-
-    fn link_row_zero(&self, row: usize) -> bool {
-        self.pair(row) == (0, 0) && self.flags[row] == 0
+        let (n, m) = (usize::from(self.n), usize::from(self.m));
+        all_zero(&self.parent[n..])
+            && all_zero(&self.ignore[n..])
+            && all_zero(&self.status[n..])
+            && all_zero(&self.holds[n..])
+            && all_zero(&self.depth[n..])
+            && all_zero(&self.error[n..])
+            && all_zero(&self.children[n..])
+            && all_zero(&self.linked[n..])
+            && all_zero(&self.consumer[m..])
+            && all_zero(&self.supplier[m..])
+            && all_zero(&self.flags[m..])
     }
 
     /// Status, holds and error lie in range; the disable depth always does.
@@ -79,57 +80,30 @@ impl Bench {
         })
     }
 
-    /// The stored counts equal a recount.
-    fn counts_sound(&self) -> bool {
-        self.devices().all(|device| {
-            usize::from(self.children[device]) == self.recount_children(device)
-                && usize::from(self.linked[device]) == self.recount_links(device)
-        })
-    }
-
-    /// Powered children, counted anew.
-    pub fn recount_children(&self, device: usize) -> usize {
-        self.devices()
-            .filter(|&child| self.parent_of(child) == Some(device) && self.powered(child))
-            .count()
-    }
-
-    /// Runtime links from powered consumers, counted anew.
-    pub fn recount_links(&self, device: usize) -> usize {
-        self.link_rows()
-            .filter(|&row| self.flags[row] & RUNTIME != 0)
-            .filter(|&row| usize::from(self.supplier[row]) == device)
-            .filter(|&row| self.powered(usize::from(self.consumer[row])))
-            .count()
-    }
-
     /// Document 01: the supply rule. A device awake, waking or going to sleep
     /// has no sleeping supplier and no sleeping parent that counts its children.
-    fn supply_sound(&self) -> bool {
+    fn supply_sound(&self, sets: &Sets) -> bool {
         self.devices()
             .filter(|&device| self.status[device] != SUSPENDED)
-            .all(|device| {
-                !self.suppliers(device).any(|above| self.sleeping(above))
-                    && !self
-                        .counting_parent(device)
-                        .is_some_and(|above| self.sleeping(above))
-            })
+            .all(|device| sets.sleeping_above(self, device).is_empty())
     }
 
     /// 0 to 3 bytes are carried, unused ones zero.
     fn carried_sound(&self) -> bool {
         self.carried
             .get(usize::from(self.count)..)
-            .is_some_and(|unused| unused.iter().all(|&byte| byte == 0))
+            .is_some_and(all_zero)
     }
 
     /// The open callback fits the devices.
-    fn callback_sound(&self) -> bool {
+    fn callback_sound(&self, sets: &Sets) -> bool {
         match self.callback {
-            NO_CALLBACK => self.asked == 0 && self.target == 0 && self.none_in_change(),
+            NO_CALLBACK => self.asked == 0 && self.target == 0 && self.in_change() == 0,
             IDLE_CALLBACK => self.one_device_named() && self.idle_sound(),
             SUSPEND_CALLBACK => self.one_device_named() && self.suspend_sound(),
-            RESUME_CALLBACK => self.asked < self.n && self.target < self.n && self.resume_sound(),
+            RESUME_CALLBACK => {
+                self.asked < self.n && self.target < self.n && self.resume_sound(sets)
+            }
             _ => false,
         }
     }
@@ -139,27 +113,22 @@ impl Bench {
         self.asked < self.n && self.target == self.asked
     }
 
-    /// In change: resuming or suspending.
-    fn in_change(&self, device: usize) -> bool {
-        matches!(self.status[device], RESUMING | SUSPENDING)
-    }
-
-    fn none_in_change(&self) -> bool {
-        !self.devices().any(|device| self.in_change(device))
+    /// How many devices are in change: resuming or suspending.
+    fn in_change(&self) -> usize {
+        self.status[self.devices()]
+            .iter()
+            .filter(|&&status| matches!(status, RESUMING | SUSPENDING))
+            .count()
     }
 
     /// Only the device asked is in change, and this is its status.
     fn only_asked_is(&self, status: u8) -> bool {
-        let asked = usize::from(self.asked);
-        self.status[asked] == status
-            && self
-                .devices()
-                .all(|device| device == asked || !self.in_change(device))
+        self.status[usize::from(self.asked)] == status && self.in_change() == 1
     }
 
     fn idle_sound(&self) -> bool {
         let asked = usize::from(self.asked);
-        self.none_in_change() && self.status[asked] == ACTIVE && self.suspend_test(asked).is_none()
+        self.in_change() == 0 && self.status[asked] == ACTIVE && self.suspend_test(asked).is_none()
     }
 
     fn suspend_sound(&self) -> bool {
@@ -168,10 +137,10 @@ impl Bench {
 
     /// The device asked is the lowest of the target's wake set, and no member
     /// has an error or a disable depth above 0.
-    fn resume_sound(&self) -> bool {
-        let target = usize::from(self.target);
+    fn resume_sound(&self, sets: &Sets) -> bool {
+        let members = sets.wake_set(self, usize::from(self.target));
         self.only_asked_is(RESUMING)
-            && self.lowest_to_wake(target) == Some(usize::from(self.asked))
-            && !self.wake_blocked(target)
+            && members.lowest() == Some(usize::from(self.asked))
+            && !members.devices().any(|member| self.unfit(member))
     }
 }

@@ -87,6 +87,18 @@ fn worked_day_by_records() {
 }
 
 #[test]
+fn worked_day_whole() {
+    let (mut bench, mut replies) = (day_bench(), [0xAA; 48]);
+    assert_eq!(bench.feed(&day_log(), &mut replies), Ok(12));
+    assert_eq!(replies, *day_replies());
+    let mut right = day_bench();
+    for (record, _) in DAY {
+        right.record(record);
+    }
+    assert_eq!(bench, right);
+}
+
+#[test]
 fn worked_day_cut_after_one_byte() {
     let (log, mut bench, mut replies) = (day_log(), day_bench(), [0xAA; 50]);
     assert_eq!(bench.feed(&log[..1], &mut []), Ok(0));
@@ -603,6 +615,63 @@ fn pieces_refused() {
     assert_eq!(Bench::empty().feed(&[], &mut replies), Err(21));
     assert_eq!(replies, [0xAA; 5_000]);
     assert_eq!(bench.feed(&[0; 4_096], &mut replies), Ok(1_024));
+}
+
+#[test]
+fn refused_pieces_leave_everything() {
+    // One byte carried and a callback open.
+    let log = day_log();
+    let (mut bench, mut replies) = (day_bench(), [0xAA; 5_000]);
+    assert_eq!(bench.feed(&log[..17], &mut replies), Ok(4));
+    replies = [0xAA; 5_000];
+    let mut unsound = bench.clone();
+    unsound.holds[0] = 32_768;
+    for (damaged, length, room, number) in [
+        (true, 4_097, 0, 21),
+        (true, 31, 5_000, 21),
+        (true, 0, 0, 21),
+        (false, 4_097, 5_000, 22),
+        (false, 4_097, 0, 22),
+        (false, 31, 31, 23),
+        (false, 3, 0, 23),
+    ] {
+        let bench = if damaged { &mut unsound } else { &mut bench };
+        let before = bench.clone();
+        let refused = bench.feed(&[1; 4_097][..length], &mut replies[..room]);
+        assert_eq!(refused, Err(number));
+        assert_eq!(*bench, before);
+        assert_eq!(replies, [0xAA; 5_000]);
+    }
+    assert_eq!(bench.feed(&log[17..], &mut replies), Ok(8));
+    assert_eq!(replies[..32], day_replies()[16..]);
+}
+
+#[test]
+fn an_empty_piece_changes_nothing() {
+    let (mut bench, mut replies) = (day_bench(), [0xAA; 8]);
+    for (byte, carried) in (0..).zip(day_log().iter().take(4)) {
+        let before = bench.clone();
+        assert_eq!(bench.count, byte);
+        assert_eq!(bench.feed(&[], &mut replies), Ok(0));
+        assert_eq!(bench.feed(&[], &mut []), Ok(0));
+        assert_eq!((&bench, replies), (&before, [0xAA; 8]));
+        bench.feed(&[*carried], &mut [0; 4]).unwrap();
+    }
+}
+
+#[test]
+fn bytes_past_the_replies_stay() {
+    let log = day_log();
+    for cut in 0..=48 {
+        let (mut bench, mut replies) = (day_bench(), [0xAA; 60]);
+        assert_eq!(bench.feed(&log[..cut], &mut replies), Ok(cut / 4));
+        let written = cut / 4 * 4;
+        assert_eq!(replies[..written], day_replies()[..written]);
+        assert_eq!(replies[written..], [0xAA; 60][written..]);
+        assert_eq!(bench.carried[..cut % 4], log[written..cut]);
+        assert_eq!(bench.carried[cut % 4..], [0; 3][cut % 4..]);
+        assert_eq!(usize::from(bench.count), cut % 4);
+    }
 }
 
 #[test]

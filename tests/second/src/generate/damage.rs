@@ -187,8 +187,8 @@ fn clear_faults(bench: &mut Bench, device: usize) {
 
 /// Puts the counts of the rows shown right.
 fn recount(bench: &mut Bench) {
-    for device in 0..usize::from(bench.n).min(SHOWN) {
-        bench.children[device] = bench.recount_children(device) as u16;
-        bench.linked[device] = bench.recount_links(device) as u16;
-    }
+    let (children, linked) = bench.recount();
+    let shown = usize::from(bench.n).min(SHOWN);
+    bench.children[..shown].copy_from_slice(&children[..shown]);
+    bench.linked[..shown].copy_from_slice(&linked[..shown]);
 }

@@ -1,0 +1,139 @@
+//! How fast the keeper is beside the second implementation: one log, given to both in turn.
+
+use crate::keeper::Columns;
+use second::generate::hosts::write;
+use second::generate::random::Random;
+use second::generate::tables::Draft;
+use second::{Bench, MAX_DEVICES, MAX_LINKS, MAX_PIECE, NO_CALLBACK};
+use std::fmt;
+use std::hint::black_box;
+use std::time::Instant;
+
+/// The seed of the table and the log.
+const SEED: u64 = 1;
+/// The records of the log.
+const RECORDS: usize = 100_000;
+/// How often each keeper is given the log.
+const RUNS: usize = 101;
+
+/// Times both keepers: the lines to print, or how they differ.
+pub fn compare() -> Result<String, String> {
+    let (bench, log) = log();
+    let columns = Columns::from(&bench);
+    let (mut right, mut replies) = (Vec::<u8>::new(), Vec::<u8>::new());
+    give(&bench, Bench::feed, &log, |piece| right.extend(piece))?;
+    give(&columns, Columns::feed, &log, |piece| replies.extend(piece))?;
+    if replies != right || replies.len() != log.len() {
+        return Err("bench: the replies differ".to_string());
+    }
+    let (mut ours, mut second) = (Vec::new(), Vec::new());
+    for _ in 0..RUNS {
+        ours.push(time(&columns, Columns::feed, &log)?);
+        second.push(time(&bench, Bench::feed, &log)?);
+    }
+    let (ours, second) = (Times::of(ours), Times::of(second));
+    Ok(format!(
+        "bench: {RECORDS} records, {} devices, {} links, pieces of {MAX_PIECE} bytes, {RUNS} runs each\n\
+         keeper: {ours}\nsecond: {second}\nratio of medians {:.2}\nratio {:.2}",
+        bench.n,
+        bench.m,
+        ours.median / second.median,
+        ours.best / second.best
+    ))
+}
+
+/// Gives a keeper the whole log, a piece at a time; the replies to each are handed on.
+fn give<B: Clone, E: fmt::Display>(
+    start: &B,
+    feed: impl Fn(&mut B, &[u8], &mut [u8]) -> Result<usize, E>,
+    log: &[u8],
+    mut each: impl FnMut(&[u8]),
+) -> Result<(), String> {
+    let mut bench = start.clone();
+    let mut buffer = [0; MAX_PIECE];
+    for piece in log.chunks(MAX_PIECE) {
+        let replies = feed(&mut bench, piece, &mut buffer)
+            .map_err(|number| format!("bench: a piece refused with {number}"))?;
+        each(&buffer[..4 * replies]);
+    }
+    Ok(())
+}
+
+/// The time that a keeper takes for the log, in nanoseconds a record.
+fn time<B: Clone, E: fmt::Display>(
+    start: &B,
+    feed: impl Fn(&mut B, &[u8], &mut [u8]) -> Result<usize, E>,
+    log: &[u8],
+) -> Result<f64, String> {
+    let before = Instant::now();
+    give(start, feed, log, |replies| {
+        black_box(replies);
+    })?;
+    Ok(before.elapsed().as_nanos() as f64 / RECORDS as f64)
+}
+
+/// The best and the median of several times.
+struct Times {
+    best: f64,
+    median: f64,
+}
+
+impl Times {
+    fn of(mut times: Vec<f64>) -> Times {
+        times.sort_by(f64::total_cmp);
+        Times {
+            best: times[0],
+            median: times[times.len() / 2],
+        }
+    }
+}
+
+impl fmt::Display for Times {
+    fn fmt(&self, out: &mut fmt::Formatter) -> fmt::Result {
+        let Times { best, median } = self;
+        write!(out, "best {best:.1}, median {median:.1} ns a record")
+    }
+}
+
+/// The bench of the largest table, and the log of a host at work on it.
+fn log() -> (Bench, Vec<u8>) {
+    let mut random = Random::new(SEED);
+    let table = Draft::good(&mut random, MAX_DEVICES, MAX_LINKS.into()).bytes();
+    let start = second::load(&table).expect("the table is good");
+    let (mut bench, mut log) = (start.clone(), Vec::new());
+    for _ in 0..RECORDS {
+        let record = next_record(&mut random, &bench);
+        bench.record(record);
+        log.extend(record);
+    }
+    (start, log)
+}
+
+/// The host answers the open callback; else it enables a device, sets it right
+/// after an error, gives up one that it holds, or asks something of another.
+fn next_record(random: &mut Random, bench: &Bench) -> [u8; 4] {
+    if bench.callback != NO_CALLBACK && random.percent(98) {
+        return write(13, bench.asked, result(random));
+    }
+    let device = random.below(bench.n.into()) as u8;
+    let row = usize::from(device);
+    let kind = if bench.error[row] != 0 {
+        random.one_of(&[10, 11])
+    } else if bench.depth[row] > 0 {
+        1
+    } else if bench.holds[row] > 0 {
+        random.one_of(&[3, 4, 5, 6, 6, 6, 6, 6])
+    } else {
+        random.one_of(&[2, 4, 4, 4, 4, 4, 7, 7, 7, 8, 8, 8, 8, 9, 9, 12])
+    };
+    write(kind, device, 0)
+}
+
+/// A callback's result: mostly 0, now and then busy, seldom an error.
+fn result(random: &mut Random) -> i16 {
+    match random.below(100) {
+        0..=95 => 0,
+        96..=98 => -16,
+        _ => -5,
+    }
+}
