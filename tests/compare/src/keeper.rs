@@ -130,7 +130,8 @@ extern "C" {
         error: &mut Column,
         children: &mut DeviceBytes,
         linked: &mut Column,
-        scalars: &mut [u8; 7],
+        carried: &mut [u8; 3],
+        scalars: &mut [u8; 4],
         piece: *const u8,
         piece_length: usize,
         replies: *mut u8,
@@ -295,14 +296,14 @@ pub struct Columns {
     error: Column,
     children: DeviceBytes,
     linked: Column,
-    /// The open callback's kind, the device asked and the target; three carried
-    /// bytes and their number.
-    scalars: [u8; 7],
+    carried: [u8; 3],
+    /// The open callback's kind, the device asked and the target, and how many
+    /// bytes are carried.
+    scalars: [u8; 4],
 }
 
 impl From<&Bench> for Columns {
     fn from(b: &Bench) -> Columns {
-        let [first, second, third] = b.carried;
         Columns {
             parent: b.parent,
             ignore: b.ignore,
@@ -317,7 +318,8 @@ impl From<&Bench> for Columns {
             error: b.error,
             children: b.children.map(|count| count as u8),
             linked: b.linked,
-            scalars: [b.callback, b.asked, b.target, first, second, third, b.count],
+            carried: b.carried,
+            scalars: [b.callback, b.asked, b.target, b.count],
         }
     }
 }
@@ -325,7 +327,7 @@ impl From<&Bench> for Columns {
 impl Columns {
     /// The bench that has these columns and the table of another.
     pub fn bench(&self, table: &Bench) -> Bench {
-        let [callback, asked, target, first, second, third, count] = self.scalars;
+        let [callback, asked, target, count] = self.scalars;
         Bench {
             ignore: self.ignore,
             status: self.status,
@@ -337,7 +339,7 @@ impl Columns {
             callback,
             asked,
             target,
-            carried: [first, second, third],
+            carried: self.carried,
             count,
             ..table.clone()
         }
@@ -347,7 +349,7 @@ impl Columns {
     /// number of replies, which there are none of).
     pub fn feed(&mut self, piece: &[u8], replies: &mut [u8]) -> Result<usize, u32> {
         // SAFETY: the function reads the columns and the piece, writes the seven
-        // columns lent for that, the scalars and the replies, and nothing else.
+        // columns lent for that, the carried bytes, the scalars and the replies, and nothing else.
         let answer = unsafe {
             keeper_feed(
                 &self.parent,
@@ -363,6 +365,7 @@ impl Columns {
                 &mut self.error,
                 &mut self.children,
                 &mut self.linked,
+                &mut self.carried,
                 &mut self.scalars,
                 piece.as_ptr(),
                 piece.len(),
