@@ -1,0 +1,47 @@
+//! Links the proved program: `target/staticlib/libreplaying.a` of the
+//! repository, and the toolchain's C code for arguments and errno.
+
+use std::env;
+use std::fs;
+use std::path::{Path, PathBuf};
+
+/// The folder of the toolchain: RATTLE_HOME, or two above the file `rt`.
+fn toolchain() -> PathBuf {
+    println!("cargo:rerun-if-env-changed=RATTLE_HOME");
+    if let Some(home) = env::var_os("RATTLE_HOME") {
+        return PathBuf::from(home);
+    }
+    let path = env::var_os("PATH").expect("there is a PATH");
+    let rt = env::split_paths(&path)
+        .map(|folder| folder.join("rt"))
+        .find(|file| file.is_file())
+        .expect("rt is on the PATH");
+    let rt = fs::canonicalize(rt).expect("rt can be found");
+    rt.ancestors().nth(2).expect("rt stands in bin/").to_owned()
+}
+
+fn take(archive: &Path, out: &Path, hint: &str) {
+    println!("cargo:rerun-if-changed={}", archive.display());
+    let name = archive.file_name().expect("an archive has a name");
+    if let Err(error) = fs::copy(archive, out.join(name)) {
+        panic!("{}: {error}; {hint}", archive.display());
+    }
+}
+
+fn main() {
+    let package = PathBuf::from(env::var_os("CARGO_MANIFEST_DIR").expect("cargo sets it"));
+    let out = PathBuf::from(env::var_os("OUT_DIR").expect("cargo sets it"));
+    take(
+        &package.join("../target/staticlib/libreplaying.a"),
+        &out,
+        "`rt staticlib replaying` makes it",
+    );
+    take(
+        &toolchain().join("lib/libos_c.a"),
+        &out,
+        "it is part of the toolchain",
+    );
+    println!("cargo:rustc-link-search=native={}", out.display());
+    println!("cargo:rustc-link-lib=static=replaying");
+    println!("cargo:rustc-link-lib=static=os_c");
+}
