@@ -16,6 +16,7 @@ use Rattle.model.specs.State.{powered, isChild, isLive, childCount, linkCount, 
 use Rattle.model.proofs.Basics.{and-parts, and-of, by-if, none-rows}
 use Rattle.model.proofs.Tests.{tests}
 use Rattle.model.proofs.Counting.{at-column, length-column, column-same, tally-same, count-below, count-low, count-change, same-children, same-linked}
+use Rattle.links.specs.Ascending.{Ascending}
 use Rattle.counts.specs.Shifts.{Turned, next, only, hasParent, runtimeOf, Turns, Follows}
 
 -- ---- tallies
@@ -86,9 +87,9 @@ follow-off t up key n i col off = follow-same (λ k. simp tests (λ z. rw z off)
 unfoldable pub under : ℕ → (ℕ → Bool) → ℕ → Bool
 under i t k = ltb k i and t k
 
-pub under-none : (t : ℕ → Bool) (up : Bool) (key : List ℕ) (n : ℕ) (col : List ℕ) → Follows (under 0 t) up key n col col
+pub under-first : (t : ℕ → Bool) (up : Bool) (key : List ℕ) (n i : ℕ) (col : List ℕ) → ((k : ℕ) → k < i → t k ≡ false) → Follows (under i t) up key n col col
 unfolding under
-under-none t up key n col = follow-same (λ k. simp tests (λ z. absurd (omega arith)))
+under-first t up key n i col none = follow-same (λ k. simp tests (λ z. none k z))
 
 -- g below i, and f from there on
 unfoldable mixed : ℕ → (ℕ → Bool) → (ℕ → Bool) → ℕ → Bool
@@ -119,11 +120,16 @@ under-more t up key n i a b c h k =
           (h .follows f (mixed i g f) (mixed-turns (under (i + 1) t) t up i f g (λ j l. rw (lt-ltb j (i + 1) (omega arith))) z) e);
     }
 
--- a tally reads no further than n
-pub under-all : (t : ℕ → Bool) (up : Bool) (key : List ℕ) (n : ℕ) (a b : List ℕ) → Follows (under n t) up key n a b → Follows t up key n a b
+-- below i and no further
+pub under-rest : (t : ℕ → Bool) (up : Bool) (key : List ℕ) (n i : ℕ) (a b : List ℕ) → ((k : ℕ) → i ≤ k → k < n → t k ≡ false) → Follows (under i t) up key n a b → Follows t up key n a b
 unfolding mixed if_then_else_
-under-all t up key n a b h =
-    record { follows = λ f g z e. h .follows f (mixed n g f) (mixed-turns t t up n f g (λ k l. refl) z) e ∙ column-same _ _ ROWS (λ q. tally-below (mixed n g f) g _ n q (λ k l. rw (lt-ltb k n l))) }
+under-rest t up key n i a b none h =
+    record { follows = λ f g z e. h .follows f (mixed i g f) (mixed-turns t t up i f g (λ k l. refl) z) e ∙ column-same _ _ ROWS (λ q. tally-below (mixed i g f) g _ n q (λ k l. by-if (λ x. x ≡ g k) (ltb k i) _ _ (λ y. refl) (λ y. z .rest k (none k (ltb-false k i y) l)))) }
+
+-- a link of another device
+pub not-of : (consumer flags : List ℕ) (p k : ℕ) → (getD consumer k 0 ≡ p → ⊥) → runtimeOf consumer flags p k ≡ false
+unfolding runtimeOf
+not-of consumer flags p k ne = simp tests (λ e. absurd (ne e))
 
 -- ---- the status of one device
 and-on : (x y : Bool) → y ≡ true → x and y ≡ x
@@ -173,21 +179,21 @@ module _ (m : ℕ) (parent consumer supplier flags : List ℕ) (p v : ℕ) (stat
       record {
         status = refl;
         counts =
-            λ n ignore few l most long z.
+            λ n ignore few l most up long z.
             let row : p < length status = let r = none-rows few in omega arith in
             let w = wired n m parent ignore consumer supplier flags in
             let same = beq-same _ _ e in
             record { children = z .children ∙ sym (same-children w status p v row same); linked = z .linked ∙ sym (same-linked w status p v row same) };
       }
 
-  pub turned-other : Bool·beq (powered (getD status p 0)) (powered v) ≡ false → (children′ linked′ : List ℕ) → ((n : ℕ) → p < n → n ≤ NONE → Follows (only p (hasParent parent)) (powered v) parent n children children′) → (m ≤ LINKS → Follows (runtimeOf consumer flags p) (powered v) supplier m linked linked′) → Turned m parent consumer supplier flags p v status children linked (set status p v) children′ linked′
+  pub turned-other : Bool·beq (powered (getD status p 0)) (powered v) ≡ false → (children′ linked′ : List ℕ) → ((n : ℕ) → p < n → n ≤ NONE → Follows (only p (hasParent parent)) (powered v) parent n children children′) → (m ≤ LINKS → Ascending consumer m → Follows (runtimeOf consumer flags p) (powered v) supplier m linked linked′) → Turned m parent consumer supplier flags p v status children linked (set status p v) children′ linked′
   turned-other e children′ linked′ c h =
       record {
         status = refl;
         counts =
-            λ n ignore few l most long z.
+            λ n ignore few l most up long z.
             let row : p < length status = let r = none-rows few in omega arith in
             let w = wired n m parent ignore consumer supplier flags in
             let other = beq-other _ _ e in
-            record { children = children-follow status p v row other w children children′ (c n l few) (z .children); linked = linked-follow status p v row other w linked linked′ (h most) (z .linked) };
+            record { children = children-follow status p v row other w children children′ (c n l few) (z .children); linked = linked-follow status p v row other w linked linked′ (h most up) (z .linked) };
       }

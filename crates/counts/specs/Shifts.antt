@@ -9,6 +9,7 @@ use Rattle.model.specs.Limits.{LINKS, ROWS, NONE}
 use Rattle.model.specs.Tests.{if_then_else_, _and_, tally, column}
 use Rattle.model.specs.Table.{Wiring, wired}
 use Rattle.model.specs.State.{childrenOf, linkedOf}
+use Rattle.links.specs.Ascending.{Ascending}
 
 -- the stored counts are the recounts
 pub record InLine (w : Wiring) (status childCounts linkCounts : List ℕ) : Type 0 where
@@ -18,7 +19,7 @@ pub record InLine (w : Wiring) (status childCounts linkCounts : List ℕ) : Type
 -- the status of p is v, and counts that were in line are so again, whatever the device count and whoever ignores children
 pub record Turned (m : ℕ) (parent consumer supplier flags : List ℕ) (p v : ℕ) (status₀ children₀ linked₀ status₁ children₁ linked₁ : List ℕ) : Type 0 where
   pub status : status₁ ≡ set status₀ p v
-  pub counts : (n : ℕ) (ignore : List ℕ) → n ≤ NONE → p < n → m ≤ LINKS → length status₀ ≡ ROWS → InLine (wired n m parent ignore consumer supplier flags) status₀ children₀ linked₀ → InLine (wired n m parent ignore consumer supplier flags) status₁ children₁ linked₁
+  pub counts : (n : ℕ) (ignore : List ℕ) → n ≤ NONE → p < n → m ≤ LINKS → Ascending consumer m → length status₀ ≡ ROWS → InLine (wired n m parent ignore consumer supplier flags) status₀ children₀ linked₀ → InLine (wired n m parent ignore consumer supplier flags) status₁ children₁ linked₁
 
 -- ---- step by step
 -- a byte as a row of a device column

@@ -3,6 +3,7 @@ ghost use mathlib.Core.Path.{_≡_};
 ghost use Prim.Native.Nat.{ℕ, _<_, _≤_};
 ghost use Rattle.model.specs.Limits.{LINKS, NONE};
 ghost use Rattle.model.specs.State.{powered};
+ghost use Rattle.links.specs.Ascending.{Ascending};
 ghost use Rattle.counts.specs.Shifts.{Row, next, only, hasParent, runtimeOf, Follows, Turned};
 use model::LINKS;
 use model::NONE;
@@ -95,7 +96,7 @@ fn shift_link<'a>(
     }
 }
 
-// The suppliers of p's runtime links count them or count them no more.
+// The suppliers of p's runtime links count them or count them no more. Links ascend by consumer, so those of p stand together.
 fn shift_links<'a>(
     consumer: &'a [u8; LINKS],
     supplier: &'a [u8; LINKS],
@@ -105,14 +106,17 @@ fn shift_links<'a>(
     p: u8,
     up: bool,
 )
-    ensures { λ _. ⌜ (m ≤ LINKS → Follows (runtimeOf (now (consumer .entry)) (now (flags .entry)) p) up (now (supplier .entry)) m (now (linked .entry)) (now (linked .exit))) ⌝ }
+    ensures { λ _. ⌜ (m ≤ LINKS → Ascending (now (consumer .entry)) m → Follows (runtimeOf (now (consumer .entry)) (now (flags .entry)) p) up (now (supplier .entry)) m (now (linked .entry)) (now (linked .exit))) ⌝ }
 {
-    let links = m as usize;
-    if LINKS < links {
+    let many = m as usize;
+    if LINKS < many {
         return;
     }
-    let mut i: usize = 0;
-    while i < links {
+    let mut i: usize = links::first_link(consumer, many, p);
+    while i < many {
+        if p < consumer[i] {
+            return;
+        }
         shift_link(consumer, supplier, flags, i, linked, p, up);
         i += 1;
     }

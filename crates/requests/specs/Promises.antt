@@ -12,6 +12,7 @@ use Rattle.model.specs.State.{State, Devices, Callback, Carry, SUSPENDED, ACTIV
 use Rattle.model.specs.Records.{Done, finished}
 use Rattle.model.specs.Requests.{ignoreChildren}
 use Rattle.model.specs.Lent.{devicesFrom, lent, withHoldsColumn, withDepthColumn}
+use Rattle.links.specs.Ascending.{Ascending}
 use Rattle.counts.specs.Shifts.{InLine}
 use Rattle.requests.specs.declared.Out.{Out}
 use Rattle.requests.specs.Answers.{doneOf}
@@ -38,6 +39,7 @@ pub record Leads (f : State → Done) (c : Callback) (w : Wiring) (before after 
 pub record Ready (w : Wiring) (status childCounts linkCounts : List ℕ) : Type 0 where
   pub few : w .n ≤ NONE
   pub links : w .m ≤ LINKS
+  pub ascending : Ascending (w .consumer) (w .m)
   pub rows : length status ≡ ROWS
   pub counts : InLine w status childCounts linkCounts
 

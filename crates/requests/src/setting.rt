@@ -6,6 +6,7 @@ ghost use Rattle.model.specs.Limits.{LINKS};
 ghost use Rattle.model.specs.Table.{wired};
 ghost use Rattle.model.specs.Requests.{running, parentDown, supplierDown, setActive, needed, setSuspended};
 ghost use Rattle.model.specs.Lent.{none, devicesFrom, ofBars, ofUse, ofParents, ofLinks};
+ghost use Rattle.links.specs.Ascending.{Ascending};
 ghost use Rattle.requests.specs.Answers.{finishedOut};
 ghost use Rattle.requests.specs.Promises.{OnIgnore, Turns, linkDown, inactiveWithChildren};
 use crate::ACTIVE;
@@ -69,7 +70,7 @@ fn link_down<'a>(
     status[row(supplier[i])] != ACTIVE
 }
 
-// A runtime supplier of device p is not active.
+// A runtime supplier of device p is not active. Links ascend by consumer, so those of p stand together.
 fn supplier_down<'a>(
     consumer: &'a [u8; LINKS],
     supplier: &'a [u8; LINKS],
@@ -78,14 +79,17 @@ fn supplier_down<'a>(
     status: &'a [u8; ROWS],
     p: u8,
 ) -> bool
-    ensures { λ r. ⌜ (m ≤ LINKS → r ≡ supplierDown (ofLinks m (now (consumer .entry)) (now (supplier .entry)) (now (flags .entry)) (now (status .entry))) p) ⌝ }
+    ensures { λ r. ⌜ (m ≤ LINKS → Ascending (now (consumer .entry)) m → r ≡ supplierDown (ofLinks m (now (consumer .entry)) (now (supplier .entry)) (now (flags .entry)) (now (status .entry))) p) ⌝ }
 {
-    let links = m as usize;
-    if LINKS < links {
+    let many = m as usize;
+    if LINKS < many {
         return true;
     }
-    let mut i: usize = 0;
-    while i < links {
+    let mut i: usize = links::first_link(consumer, many, p);
+    while i < many {
+        if p < consumer[i] {
+            return false;
+        }
         if link_down(consumer, supplier, flags, status, p, i) {
             return true;
         }
