@@ -3,18 +3,19 @@ use mathlib.Core.Path.{_≡_, refl, sym, _∙_, subst}
 use mathlib.Core.Bool.{Bool, true, false}
 use mathlib.Core.List.{List}
 use mathlib.Core.Logic.{_⊎_, inl, inr, ⊎-elim, _↔_}
-use Prim.Native.Nat.{ℕ, _-_, _<_, _≤_, _%_}
+use Prim.Native.Nat.{ℕ, _+_, _<_, _≤_, _%_}
 use native.Mathlib.Omega.{arith}
-use native.Mathlib.Nat.{eq-or-lt-of-le}
-use native.Mathlib.Decide.{ℕ-discrete}
+use native.Mathlib.Nat.{eq-or-lt-of-le, le-refl}
+use native.Mathlib.Decide.{ℕ-discrete, decLt}
 use lib.ListN.{length, getD, set, replicate, length-set, length-replicate}
 use lib.Seq.{getD-set-same, getD-set-other, ext-getD}
-use Rattle.model.specs.Limits.{LINKS, ROWS, NONE}
+use Rattle.model.specs.Limits.{ROWS, NONE}
 use Rattle.model.specs.Tests.{_and_}
 use Rattle.model.specs.Table.{Wiring, wired}
 use Rattle.model.specs.WakeSet.{Sleeping, Needs, child, link, Falls, here, down-to, On, wakeMarks}
 use Rattle.model.proofs.Tests.{tests}
 use Rattle.model.proofs.WakeSet.{none-on, marks-long, falls-iff}
+use Rattle.links.specs.Ascending.{Ascending}
 use Rattle.wakeset.specs.Marks.{onParent, leads, Joined, Closed, FromLinks, Ready}
 
 -- ---- the set of a device, from its first step
@@ -103,47 +104,53 @@ pub supplier-lower : (consumer supplier flags : List ℕ) (p i : ℕ) → leads 
 unfolding leads
 supplier-lower consumer supplier flags p i e = (simp tests at e) .1 .0
 
+pub link-consumer : (consumer supplier flags : List ℕ) (p i : ℕ) → leads consumer supplier flags p i ≡ true → getD consumer i 0 ≡ p
+unfolding leads
+link-consumer consumer supplier flags p i e = (simp tests at e) .0
+
 -- what p rests on below it is its parent or a supplier, as the tests say
 needs-tests : {w : Wiring} {p r : ℕ} → Needs w p r → r < p → ((r ≡ getD (w .parent) p 0) × (onParent (w .parent) (w .ignore) p ≡ true)) ⊎ ((i : ℕ) × (i < w .m) × (r ≡ getD (w .supplier) i 0) × (leads (w .consumer) (w .supplier) (w .flags) p i ≡ true))
 unfolding onParent leads
 needs-tests (child e ne ig) l = inl (sym e, simp tests ((rw (← e) at l), (rw (← e) at ig)))
 needs-tests (link i b c s f) l = inr (i, b, sym s, simp tests (c, ((rw (← s) at l), f)))
 
--- the parent's set, the suppliers' sets and the device are the device's set
-pub joined-whole : (w : Wiring) (status : List ℕ) (p : ℕ) (M₀ M₁ M₂ : List Bool) → p ≤ NONE → Sleeping status p → p < length M₀ → Joined (FromParent w status p) M₀ M₁ → Joined (FromLinks w status p (w .m)) M₁ M₂ → Joined (Falls w status p) M₀ (set M₂ p true)
-joined-whole w status p M₀ M₁ M₂ low s l j k =
-    joined-as to from (joined-then (joined-then j k) (joined-set M₂ p (let x = j .long in let y = k .long in omega arith)))
+-- the parent's set, the suppliers' sets from the first link of p on and the device are the device's set
+pub joined-whole : (w : Wiring) (status : List ℕ) (p k : ℕ) (M₀ M₁ M₂ : List Bool) → p ≤ NONE → Sleeping status p → p < length M₀ → ((i : ℕ) → i < k → getD (w .consumer) i 0 ≡ p → ⊥) → Joined (FromParent w status p) M₀ M₁ → Joined (FromLinks w status p k) M₁ M₂ → Joined (Falls w status p) M₀ (set M₂ p true)
+joined-whole w status p k M₀ M₁ M₂ low s l none j h =
+    joined-as to from (joined-then (joined-then j h) (joined-set M₂ p (let x = j .long in let y = h .long in omega arith)))
   where
-    to : (q : ℕ) → (FromParent w status p q ⊎ FromLinks w status p (w .m) q) ⊎ (q ≡ p) → Falls w status p q
+    to : (q : ℕ) → (FromParent w status p q ⊎ FromLinks w status p k q) ⊎ (q ≡ p) → Falls w status p q
     to q =
         ⊎-elim
         (⊎-elim (λ f. let d = parent-needs w p low (f .rests) in front s (d .0) (d .1) (f .falls)) (λ f. let d = link-needs w p (f .at) (f .below) (f .leading) in front s (d .0) (d .1) (f .falls)))
         (λ e. rw e (here s))
 
-    by : (q r : ℕ) → Needs w p r → r < p → Falls w status r q → (FromParent w status p q ⊎ FromLinks w status p (w .m) q) ⊎ (q ≡ p)
-    by q r d b i = inl (⊎-elim (λ z. inl (record { rests = z .1; falls = rw (z .0) at i })) (λ z. inr (record { at = z .0; below = z .1; leading = z .3; falls = rw (z .2) at i })) (needs-tests d b))
+    on : (i : ℕ) → leads (w .consumer) (w .supplier) (w .flags) p i ≡ true → k ≤ i
+    on i e = elim (decLt i k) [ yes b ↦ absurd (none i b (link-consumer _ _ _ p i e)) | no b ↦ omega arith ]
 
-    from : (q : ℕ) → Falls w status p q → (FromParent w status p q ⊎ FromLinks w status p (w .m) q) ⊎ (q ≡ p)
+    by : (q r : ℕ) → Needs w p r → r < p → Falls w status r q → (FromParent w status p q ⊎ FromLinks w status p k q) ⊎ (q ≡ p)
+    by q r d b i = inl (⊎-elim (λ z. inl (record { rests = z .1; falls = rw (z .0) at i })) (λ z. inr (record { at = z .0; from = on (z .0) (z .3); below = z .1; leading = z .3; falls = rw (z .2) at i })) (needs-tests d b))
+
+    from : (q : ℕ) → Falls w status p q → (FromParent w status p q ⊎ FromLinks w status p k q) ⊎ (q ≡ p)
     from q i = ⊎-elim (λ e. inr e) (λ z. by q (z .0) (z .1) (z .2) (z .3)) (split i)
 
--- the last of k links, then the others
-pub joined-links : (w : Wiring) (status : List ℕ) (p k : ℕ) (M₀ M₁ M₂ : List Bool) → (k ≡ 0 → ⊥) → Joined (AtLink w status p (k - 1)) M₀ M₁ → Joined (FromLinks w status p (k - 1)) M₁ M₂ → Joined (FromLinks w status p k) M₀ M₂
-joined-links w status p k M₀ M₁ M₂ ne j l =
+-- link k, then the others
+pub joined-links : (w : Wiring) (status : List ℕ) (p k : ℕ) (M₀ M₁ M₂ : List Bool) → k < w .m → Joined (AtLink w status p k) M₀ M₁ → Joined (FromLinks w status p (k + 1)) M₁ M₂ → Joined (FromLinks w status p k) M₀ M₂
+joined-links w status p k M₀ M₁ M₂ b j l =
     joined-as to from (joined-then j l)
   where
-    to : (q : ℕ) → AtLink w status p (k - 1) q ⊎ FromLinks w status p (k - 1) q → FromLinks w status p k q
-    to q = ⊎-elim (λ f. record { at = k - 1; below = omega arith; leading = f .leading; falls = f .falls }) (λ f. record { at = f .at; below = omega (arith, f .below); leading = f .leading; falls = f .falls })
+    to : (q : ℕ) → AtLink w status p k q ⊎ FromLinks w status p (k + 1) q → FromLinks w status p k q
+    to q = ⊎-elim (λ f. record { at = k; from = le-refl k; below = b; leading = f .leading; falls = f .falls }) (λ f. record { at = f .at; from = omega (arith, f .from); below = f .below; leading = f .leading; falls = f .falls })
 
-    from : (q : ℕ) → FromLinks w status p k q → AtLink w status p (k - 1) q ⊎ FromLinks w status p (k - 1) q
+    from : (q : ℕ) → FromLinks w status p k q → AtLink w status p k q ⊎ FromLinks w status p (k + 1) q
     from q f =
-        let u : f .at ≤ k - 1 = omega (arith, f .below) in
-        ⊎-elim (λ e. inl (record { leading = rw e at (f .leading); falls = rw e at (f .falls) })) (λ h. inr (record { at = f .at; below = h; leading = f .leading; falls = f .falls })) (eq-or-lt-of-le u)
+        ⊎-elim (λ e. inl (record { leading = rw (← e) at (f .leading); falls = rw (← e) at (f .falls) })) (λ h. inr (record { at = f .at; from = omega (arith, h); below = f .below; leading = f .leading; falls = f .falls })) (eq-or-lt-of-le (f .from))
 
 -- ---- what a call asks, after a set was joined
 ready-joined : {w : Wiring} {status : List ℕ} {P : ℕ → Type 0} {ms ms′ : List Bool} → Shut w status P → Joined P ms ms′ → Ready w status ms → Ready w status ms′
 ready-joined cP j r =
     record {
-      rows = r .rows;
+      ascending = r .ascending;
       long = j .long ∙ r .long;
       closed = record { shut = λ p q h d l s. ⊎-elim (λ m. j .kept q (r .closed .shut p q m d l s)) (λ m. j .has q (cP p q m d l s)) (j .only p h) };
     }
@@ -183,5 +190,5 @@ module _ (m : ℕ) (parent ignore consumer supplier flags status : List ℕ) whe
       (λ e. j .has q (falls-again n 0 (falls-iff (for n) status t few l q .0 e))))
 
 -- no mark is closed
-pub ready-none : (w : Wiring) (status : List ℕ) → w .m ≤ LINKS → Ready w status (replicate ROWS false)
-ready-none w status l = record { rows = l; long = length-replicate ROWS false; closed = record { shut = λ p q h. absurd (none-on ROWS p h) } }
+pub ready-none : (w : Wiring) (status : List ℕ) → Ascending (w .consumer) (w .m) → Ready w status (replicate ROWS false)
+ready-none w status a = record { ascending = a; long = length-replicate ROWS false; closed = record { shut = λ p q h. absurd (none-on ROWS p h) } }

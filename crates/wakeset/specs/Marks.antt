@@ -6,11 +6,12 @@ use mathlib.Core.Logic.{_⊎_}
 use Prim.Native.Nat.{ℕ, _<_, _≤_, _%_}
 use lib.ListN.{length, getD}
 use lib.Dec.{ltb, eqb}
-use Rattle.model.specs.Limits.{LINKS, ROWS, NONE}
+use Rattle.model.specs.Limits.{ROWS, NONE}
 use Rattle.model.specs.Tests.{_and_}
 use Rattle.model.specs.Table.{Wiring}
 use Rattle.model.specs.WakeSet.{Sleeping, Needs, Falls, On}
 use Rattle.model.specs.Questions.{climb}
+use Rattle.links.specs.Ascending.{Ascending}
 
 -- p's parent is lower and counts its children
 unfoldable pub onParent : List ℕ → List ℕ → ℕ → Bool
@@ -31,16 +32,17 @@ pub record Joined (P : ℕ → Type 0) (entry exit : List Bool) : Type 0 where
 pub record Closed (w : Wiring) (status : List ℕ) (ms : List Bool) : Type 0 where
   pub shut : (p q : ℕ) → On ms p → Needs w p q → q < p → Sleeping status q → On ms q
 
--- q is reached through a supplier of p, by one of the first k links
+-- q is reached through a supplier of p, by one of the links from k on
 pub record FromLinks (w : Wiring) (status : List ℕ) (p k q : ℕ) : Type 0 where
   pub at : ℕ
-  pub below : at < k
+  pub from : k ≤ at
+  pub below : at < w .m
   pub leading : leads (w .consumer) (w .supplier) (w .flags) p at ≡ true
   pub falls : Falls w status (getD (w .supplier) at 0) q
 
--- what marking asks: links that fit their rows, and marks that are closed
+-- what marking asks: links in order, and marks that are closed
 pub record Ready (w : Wiring) (status : List ℕ) (ms : List Bool) : Type 0 where
-  pub rows : w .m ≤ LINKS
+  pub ascending : Ascending (w .consumer) (w .m)
   pub long : length ms ≡ ROWS
   pub closed : Closed w status ms
 

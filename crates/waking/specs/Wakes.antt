@@ -1,8 +1,7 @@
 -- Parts of the model's wake that have functions of their own. Assumes nothing.
-use mathlib.Core.Bool.{Bool, not}
+use mathlib.Core.Bool.{Bool}
 use mathlib.Core.List.{List}
 use Prim.Native.Nat.{ℕ}
-use lib.Dec.{eqb}
 use Rattle.model.specs.Tests.{_and_, any}
 use Rattle.model.specs.State.{State, Callback, RESUMING, withStatus, withCallback}
 use Rattle.model.specs.WakeSet.{marked}
@@ -10,12 +9,9 @@ use Rattle.model.specs.Records.{Done, ask}
 use Rattle.model.specs.Requests.{barred}
 use Rattle.model.specs.Lent.{ofBars}
 
--- q is marked, is not p, and is barred
-unfoldable pub otherBarred : List Bool → List ℕ → List ℕ → ℕ → ℕ → Bool
-otherBarred marks depth error p q = marked marks q and not (eqb q p) and barred (ofBars depth error) q
-
-unfoldable pub anyBarred : List Bool → List ℕ → List ℕ → ℕ → ℕ → Bool
-anyBarred marks depth error n p = any (otherBarred marks depth error p) n
+-- a marked device below n is barred
+unfoldable pub anyBarred : List Bool → List ℕ → List ℕ → ℕ → Bool
+anyBarred marks depth error n = any (λ q. marked marks q and barred (ofBars depth error) q) n
 
 -- q turns resuming for the wake of t, and its resume callback is asked for
 unfoldable pub resumeOf : State → ℕ → ℕ → Done

@@ -3,14 +3,16 @@ ghost use mathlib.Core.Path.{_≡_};
 ghost use mathlib.Core.List.{List};
 ghost use Prim.Native.Nat.{ℕ, _<_, _≤_};
 ghost use lib.ListN.{getD};
+ghost use lib.Dec.{ltb};
 ghost use Rattle.model.specs.Limits.{MAXHOLDS};
+ghost use Rattle.model.specs.Tests.{_and_, _or_};
 ghost use Rattle.model.specs.Table.{wired};
 ghost use Rattle.model.specs.State.{SUSPENDING};
-ghost use Rattle.model.specs.Requests.{barred, wake, getWake};
+ghost use Rattle.model.specs.Requests.{wake, getWake};
 ghost use Rattle.model.specs.Steps.{goOn, resumeResult};
-ghost use Rattle.model.specs.Lent.{none, devicesFrom, ofBars};
+ghost use Rattle.model.specs.Lent.{none, devicesFrom};
 ghost use Rattle.requests.specs.Promises.{Turns};
-ghost use Rattle.waking.specs.Wakes.{otherBarred, anyBarred, resumeOf, askingAt};
+ghost use Rattle.waking.specs.Wakes.{anyBarred, resumeOf, askingAt};
 use model::LINKS;
 use model::ROWS;
 use requests::ACTIVE;
@@ -27,54 +29,39 @@ use requests::holding;
 use requests::row;
 use requests::sleeping;
 
-// Device q has an error or a disable depth above 0.
-fn barred<'a>(depth: &'a [u8; ROWS], error: &'a [u16; ROWS], q: u8) -> bool
-    ensures { λ r. ⌜ r ≡ barred (ofBars (now (depth .entry)) (now (error .entry))) q ⌝ }
+// A device is marked, and has an error or a disable depth above 0.
+fn bars(mark: bool, depth: u8, error: u16) -> bool
+    ensures { λ r. ⌜ r ≡ (mark and (ltb 0 error or ltb 0 depth)) ⌝ }
 {
-    let at = row(q);
-    if error[at] != 0 {
-        return true;
-    }
-    0 < depth[at]
+    let sum = (error as u32) + (depth as u32);
+    let bad = 0 < sum;
+    if mark { bad } else { false }
 }
 
-// Device q is marked, is not p, and is barred.
-fn other_barred<'a>(
-    marks: &'a [bool; ROWS],
-    depth: &'a [u8; ROWS],
-    error: &'a [u16; ROWS],
-    p: u8,
-    q: u8,
-) -> bool
-    ensures { λ r. ⌜ r ≡ otherBarred (now (marks .entry)) (now (depth .entry)) (now (error .entry)) p q ⌝ }
+// Either holds.
+fn either(a: bool, b: bool) -> bool
+    ensures { λ r. ⌜ r ≡ (a or b) ⌝ }
 {
-    if !marks[row(q)] {
-        return false;
-    }
-    if q == p {
-        return false;
-    }
-    barred(depth, error, q)
+    if a { true } else { b }
 }
 
-// A marked device below n other than p is barred.
+// A marked device below n is barred. All are looked at, so that a compiler can take several at once.
 fn any_barred<'a>(
     marks: &'a [bool; ROWS],
     depth: &'a [u8; ROWS],
     error: &'a [u16; ROWS],
     n: u8,
-    p: u8,
 ) -> bool
-    ensures { λ r. ⌜ r ≡ anyBarred (now (marks .entry)) (now (depth .entry)) (now (error .entry)) n p ⌝ }
+    ensures { λ r. ⌜ r ≡ anyBarred (now (marks .entry)) (now (depth .entry)) (now (error .entry)) n ⌝ }
 {
-    let mut q: u8 = 0;
-    while q < n {
-        if other_barred(marks, depth, error, p, q) {
-            return true;
-        }
+    let end = row(n);
+    let mut found = false;
+    let mut q: usize = 0;
+    while q < end {
+        found = either(bars(marks[q], depth[q], error[q]), found);
         q += 1;
     }
-    false
+    found
 }
 
 // Device q turns resuming for the wake of t, and its resume callback is asked for.
@@ -136,7 +123,7 @@ pub fn wake<'a>(
         return finished(p, 1);
     }
     let marks = wakeset::wake_set(parent, ignore, status, consumer, supplier, flags, n, m, p);
-    if any_barred(&marks, depth, error, n, p) {
+    if any_barred(&marks, depth, error, n) {
         return finished(p, EBUSY);
     }
     let first = wakeset::lowest(marks, n);
@@ -194,7 +181,7 @@ pub fn get_wake<'a>(
     )
 }
 
-// The members of t's wake set that remain are asked in turn; then the wake of t is finished.
+// The members of t's wake set that remain are asked in turn; then the wake of t is finished. A powered device's wake set is empty.
 fn go_on<'a>(
     parent: &'a [u8; ROWS],
     ignore: &'a [u8; ROWS],
@@ -210,6 +197,9 @@ fn go_on<'a>(
 ) -> Out
     ensures { λ o. ⌜ ((holds depth error : List ℕ) → t < n → Turns (λ s. goOn s t) none (wired n m (now (parent .entry)) (now (ignore .entry)) (now (consumer .entry)) (now (supplier .entry)) (now (flags .entry))) (devicesFrom (now (status .entry)) holds depth error (now (children .entry)) (now (linked .entry))) (devicesFrom (now (status .exit)) holds depth error (now (children .exit)) (now (linked .exit))) o) ⌝ }
 {
+    if ACTIVE <= status[row(t)] {
+        return finished(t, 0);
+    }
     let marks = wakeset::wake_set(parent, ignore, status, consumer, supplier, flags, n, m, t);
     let q = wakeset::lowest(marks, n);
     if n <= q {

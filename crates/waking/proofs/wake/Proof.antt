@@ -27,11 +27,11 @@ returns-3 c = λ holds l v r. record { is = λ y. rw (le-ltb _ _ (rw (c .before 
 
 returns-4 : tie.Need-returns-4
 unfolding wake if_then_else_
-returns-4 c = λ holds l v r. let k = c .before .before .before .before .wake-set .ensures l (r .links) in record { is = λ y. rw (le-ltb _ _ (rw (c .before .before .before .before .before .before .before .before .before .before .before .before .row .ensures .same) at (c .before .before .before .before .before .before .before .before .before .before .if1 .left)), le-ltb _ _ (rw (c .before .before .before .before .before .before .before .before .before .before .before .before .row .ensures .same) at (c .before .before .before .before .before .before .before .before .if2 .left)), ne-eqb _ _ (rw (c .before .before .before .before .before .before .before .before .before .before .before .before .row .ensures .same) at (c .before .before .before .before .before .before .if3 .left)), others-reads (wired (c .before .before .before .before .before .before .before .before .before .before .before .before .before .args .n) (c .before .before .before .before .before .before .before .before .before .before .before .before .before .args .m) (c .before .before .before .before .before .before .before .before .before .before .before .before .before .args .parent .now) (c .before .before .before .before .before .before .before .before .before .before .before .before .before .args .ignore .now) (c .before .before .before .before .before .before .before .before .before .before .before .before .before .args .consumer .now) (c .before .before .before .before .before .before .before .before .before .before .before .before .before .args .supplier .now) (c .before .before .before .before .before .before .before .before .before .before .before .before .before .args .flags .now)) (devicesFrom (c .before .before .before .before .before .before .before .before .before .before .before .before .before .args .status .now) holds (c .before .before .before .before .before .before .before .before .before .before .before .before .before .args .depth .now) (c .before .before .before .before .before .before .before .before .before .before .before .before .before .args .error .now) (c .before .before .before .before .before .before .before .before .before .before .before .before .before .args .children .now) (c .before .before .before .before .before .before .before .before .before .before .before .before .before .args .linked .now)) none y (c .before .before .before .before .before .before .before .before .before .before .before .before .before .args .p) k, ← c .before .before .any-barred .ensures, c .before .if4 .taken, c .finished4 .ensures) }
+returns-4 c = λ holds l v r. let k = c .before .before .before .before .wake-set .ensures l (r .links) (r .ascending) in record { is = λ y. rw (le-ltb _ _ (rw (c .before .before .before .before .before .before .before .before .before .before .before .before .row .ensures .same) at (c .before .before .before .before .before .before .before .before .before .before .if1 .left)), le-ltb _ _ (rw (c .before .before .before .before .before .before .before .before .before .before .before .before .row .ensures .same) at (c .before .before .before .before .before .before .before .before .if2 .left)), ne-eqb _ _ (rw (c .before .before .before .before .before .before .before .before .before .before .before .before .row .ensures .same) at (c .before .before .before .before .before .before .if3 .left)), others-reads (wired (c .before .before .before .before .before .before .before .before .before .before .before .before .before .args .n) (c .before .before .before .before .before .before .before .before .before .before .before .before .before .args .m) (c .before .before .before .before .before .before .before .before .before .before .before .before .before .args .parent .now) (c .before .before .before .before .before .before .before .before .before .before .before .before .before .args .ignore .now) (c .before .before .before .before .before .before .before .before .before .before .before .before .before .args .consumer .now) (c .before .before .before .before .before .before .before .before .before .before .before .before .before .args .supplier .now) (c .before .before .before .before .before .before .before .before .before .before .before .before .before .args .flags .now)) (devicesFrom (c .before .before .before .before .before .before .before .before .before .before .before .before .before .args .status .now) holds (c .before .before .before .before .before .before .before .before .before .before .before .before .before .args .depth .now) (c .before .before .before .before .before .before .before .before .before .before .before .before .before .args .error .now) (c .before .before .before .before .before .before .before .before .before .before .before .before .before .args .children .now) (c .before .before .before .before .before .before .before .before .before .before .before .before .before .args .linked .now)) none y (c .before .before .before .before .before .before .before .before .before .before .before .before .before .args .p) k (le-ltb _ _ (rw (c .before .before .before .before .before .before .before .before .before .before .before .before .row .ensures .same) at (c .before .before .before .before .before .before .before .before .before .before .if1 .left))) (le-ltb _ _ (rw (c .before .before .before .before .before .before .before .before .before .before .before .before .row .ensures .same) at (c .before .before .before .before .before .before .before .before .if2 .left))), ← c .before .before .any-barred .ensures, c .before .if4 .taken, c .finished4 .ensures) }
 
 returns-5 : tie.Need-returns-5
 unfolding wake askResume resumeOf if_then_else_
-returns-5 c = λ holds l v r. let k = c .before .before .before .before .before .before .before .before .wake-set .ensures l (r .links) in let a : getD (c .before .before .before .before .before .before .before .before .before .before .before .before .before .before .before .before .before .args .status .now) (c .before .before .before .before .before .before .before .before .before .before .before .before .before .before .before .before .before .args .p) 0 < 2 = (let ne = (rw (c .before .before .before .before .before .before .before .before .before .before .before .before .before .before .before .before .row .ensures .same) at (c .before .before .before .before .before .before .before .before .before .before .if3 .left)) in omega arith) in let b = some-marked _ _ _ (r .few) l a k (c .before .before .before .before .lowest .ensures) in record { is = λ y. rw (le-ltb _ _ (rw (c .before .before .before .before .before .before .before .before .before .before .before .before .before .before .before .before .row .ensures .same) at (c .before .before .before .before .before .before .before .before .before .before .before .before .before .before .if1 .left)), le-ltb _ _ (rw (c .before .before .before .before .before .before .before .before .before .before .before .before .before .before .before .before .row .ensures .same) at (c .before .before .before .before .before .before .before .before .before .before .before .before .if2 .left)), ne-eqb _ _ (rw (c .before .before .before .before .before .before .before .before .before .before .before .before .before .before .before .before .row .ensures .same) at (c .before .before .before .before .before .before .before .before .before .before .if3 .left)), others-reads (wired (c .before .before .before .before .before .before .before .before .before .before .before .before .before .before .before .before .before .args .n) (c .before .before .before .before .before .before .before .before .before .before .before .before .before .before .before .before .before .args .m) (c .before .before .before .before .before .before .before .before .before .before .before .before .before .before .before .before .before .args .parent .now) (c .before .before .before .before .before .before .before .before .before .before .before .before .before .before .before .before .before .args .ignore .now) (c .before .before .before .before .before .before .before .before .before .before .before .before .before .before .before .before .before .args .consumer .now) (c .before .before .before .before .before .before .before .before .before .before .before .before .before .before .before .before .before .args .supplier .now) (c .before .before .before .before .before .before .before .before .before .before .before .before .before .before .before .before .before .args .flags .now)) (devicesFrom (c .before .before .before .before .before .before .before .before .before .before .before .before .before .before .before .before .before .args .status .now) holds (c .before .before .before .before .before .before .before .before .before .before .before .before .before .before .before .before .before .args .depth .now) (c .before .before .before .before .before .before .before .before .before .before .before .before .before .before .before .before .before .args .error .now) (c .before .before .before .before .before .before .before .before .before .before .before .before .before .before .before .before .before .args .children .now) (c .before .before .before .before .before .before .before .before .before .before .before .before .before .before .before .before .before .args .linked .now)) none y (c .before .before .before .before .before .before .before .before .before .before .before .before .before .before .before .before .before .args .p) k, ← c .before .before .before .before .before .before .any-barred .ensures, c .before .before .before .before .before .if4 .left, lowest-reads (wired (c .before .before .before .before .before .before .before .before .before .before .before .before .before .before .before .before .before .args .n) (c .before .before .before .before .before .before .before .before .before .before .before .before .before .before .before .before .before .args .m) (c .before .before .before .before .before .before .before .before .before .before .before .before .before .before .before .before .before .args .parent .now) (c .before .before .before .before .before .before .before .before .before .before .before .before .before .before .before .before .before .args .ignore .now) (c .before .before .before .before .before .before .before .before .before .before .before .before .before .before .before .before .before .args .consumer .now) (c .before .before .before .before .before .before .before .before .before .before .before .before .before .before .before .before .before .args .supplier .now) (c .before .before .before .before .before .before .before .before .before .before .before .before .before .before .before .before .before .args .flags .now)) (devicesFrom (c .before .before .before .before .before .before .before .before .before .before .before .before .before .before .before .before .before .args .status .now) holds (c .before .before .before .before .before .before .before .before .before .before .before .before .before .before .before .before .before .args .depth .now) (c .before .before .before .before .before .before .before .before .before .before .before .before .before .before .before .before .before .args .error .now) (c .before .before .before .before .before .before .before .before .before .before .before .before .before .before .before .before .before .args .children .now) (c .before .before .before .before .before .before .before .before .before .before .before .before .before .before .before .before .before .args .linked .now)) none y (c .before .before .before .before .before .before .before .before .before .before .before .before .before .before .before .before .before .args .p) k (c .before .before .before .before .lowest .ensures)) (c .ask-resume .ensures _ _ holds _ _ b r .is y) }
+returns-5 c = λ holds l v r. let k = c .before .before .before .before .before .before .before .before .wake-set .ensures l (r .links) (r .ascending) in let a : getD (c .before .before .before .before .before .before .before .before .before .before .before .before .before .before .before .before .before .args .status .now) (c .before .before .before .before .before .before .before .before .before .before .before .before .before .before .before .before .before .args .p) 0 < 2 = (let ne = (rw (c .before .before .before .before .before .before .before .before .before .before .before .before .before .before .before .before .row .ensures .same) at (c .before .before .before .before .before .before .before .before .before .before .if3 .left)) in omega arith) in let b = some-marked _ _ _ (r .few) l a k (c .before .before .before .before .lowest .ensures) in record { is = λ y. rw (le-ltb _ _ (rw (c .before .before .before .before .before .before .before .before .before .before .before .before .before .before .before .before .row .ensures .same) at (c .before .before .before .before .before .before .before .before .before .before .before .before .before .before .if1 .left)), le-ltb _ _ (rw (c .before .before .before .before .before .before .before .before .before .before .before .before .before .before .before .before .row .ensures .same) at (c .before .before .before .before .before .before .before .before .before .before .before .before .if2 .left)), ne-eqb _ _ (rw (c .before .before .before .before .before .before .before .before .before .before .before .before .before .before .before .before .row .ensures .same) at (c .before .before .before .before .before .before .before .before .before .before .if3 .left)), others-reads (wired (c .before .before .before .before .before .before .before .before .before .before .before .before .before .before .before .before .before .args .n) (c .before .before .before .before .before .before .before .before .before .before .before .before .before .before .before .before .before .args .m) (c .before .before .before .before .before .before .before .before .before .before .before .before .before .before .before .before .before .args .parent .now) (c .before .before .before .before .before .before .before .before .before .before .before .before .before .before .before .before .before .args .ignore .now) (c .before .before .before .before .before .before .before .before .before .before .before .before .before .before .before .before .before .args .consumer .now) (c .before .before .before .before .before .before .before .before .before .before .before .before .before .before .before .before .before .args .supplier .now) (c .before .before .before .before .before .before .before .before .before .before .before .before .before .before .before .before .before .args .flags .now)) (devicesFrom (c .before .before .before .before .before .before .before .before .before .before .before .before .before .before .before .before .before .args .status .now) holds (c .before .before .before .before .before .before .before .before .before .before .before .before .before .before .before .before .before .args .depth .now) (c .before .before .before .before .before .before .before .before .before .before .before .before .before .before .before .before .before .args .error .now) (c .before .before .before .before .before .before .before .before .before .before .before .before .before .before .before .before .before .args .children .now) (c .before .before .before .before .before .before .before .before .before .before .before .before .before .before .before .before .before .args .linked .now)) none y (c .before .before .before .before .before .before .before .before .before .before .before .before .before .before .before .before .before .args .p) k (le-ltb _ _ (rw (c .before .before .before .before .before .before .before .before .before .before .before .before .before .before .before .before .row .ensures .same) at (c .before .before .before .before .before .before .before .before .before .before .before .before .before .before .if1 .left))) (le-ltb _ _ (rw (c .before .before .before .before .before .before .before .before .before .before .before .before .before .before .before .before .row .ensures .same) at (c .before .before .before .before .before .before .before .before .before .before .before .before .if2 .left))), ← c .before .before .before .before .before .before .any-barred .ensures, c .before .before .before .before .before .if4 .left, lowest-reads (wired (c .before .before .before .before .before .before .before .before .before .before .before .before .before .before .before .before .before .args .n) (c .before .before .before .before .before .before .before .before .before .before .before .before .before .before .before .before .before .args .m) (c .before .before .before .before .before .before .before .before .before .before .before .before .before .before .before .before .before .args .parent .now) (c .before .before .before .before .before .before .before .before .before .before .before .before .before .before .before .before .before .args .ignore .now) (c .before .before .before .before .before .before .before .before .before .before .before .before .before .before .before .before .before .args .consumer .now) (c .before .before .before .before .before .before .before .before .before .before .before .before .before .before .before .before .before .args .supplier .now) (c .before .before .before .before .before .before .before .before .before .before .before .before .before .before .before .before .before .args .flags .now)) (devicesFrom (c .before .before .before .before .before .before .before .before .before .before .before .before .before .before .before .before .before .args .status .now) holds (c .before .before .before .before .before .before .before .before .before .before .before .before .before .before .before .before .before .args .depth .now) (c .before .before .before .before .before .before .before .before .before .before .before .before .before .before .before .before .before .args .error .now) (c .before .before .before .before .before .before .before .before .before .before .before .before .before .before .before .before .before .args .children .now) (c .before .before .before .before .before .before .before .before .before .before .before .before .before .before .before .before .before .args .linked .now)) none y (c .before .before .before .before .before .before .before .before .before .before .before .before .before .before .before .before .before .args .p) k (c .before .before .before .before .lowest .ensures)) (c .ask-resume .ensures _ _ holds _ _ b r .is y) }
 
 pub wake-spec : {M : Type 1} → statement M
 wake-spec = tie.close (tie.spec (λ c κs. search needs) (λ c. search needs) (λ c. search needs) (λ c κs. search needs) returns (λ c. search needs) (λ c κs. search needs) returns-2 (λ c. search needs) (λ c κs. search needs) returns-3 (λ c κs. search needs) (λ c κs. search needs) (λ c κs. search needs) returns-4 (λ c κs. search needs) (λ c κs. search needs) returns-5)
