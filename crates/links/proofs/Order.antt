@@ -8,6 +8,7 @@ use native.Mathlib.Decide.{decLt}
 use lib.ListN.{getD}
 use lib.Dec.{ltb}
 use borrow.Author.Tests.{lt-ltb, le-ltb}
+use Rattle.model.specs.Limits.{LINKS}
 use Rattle.model.specs.Tests.{bit, count}
 use Rattle.model.specs.Table.{Wiring, before}
 use Rattle.model.specs.Sound.{TableRules}
@@ -23,7 +24,7 @@ rules-ascend {w} h =
       next = λ i l.
           let f = simp tests at (h .ascending i (omega arith)) in
           elim (decLt (getD (w .consumer) (i + 1) 0) (getD (w .consumer) i 0)) [ yes y ↦ let e = f (omega arith) .0 in omega arith | no n ↦ omega arith ];
-      rest = h .consumerRows .unused;
+      rest = λ i l g. h .consumerRows .unused i l;
     }
 
 pub bit-one : (b : Bool) → bit b ≤ 1
@@ -57,18 +58,18 @@ module _ {consumer : List ℕ} {m : ℕ} (a : Ascending consumer m) where
       ]
 
   -- the rows after the links, and the links
-  beyond : (p k : ℕ) → 1 ≤ p → count (λ i. ltb (getD consumer i 0) p) (m + k) ≡ count (λ i. ltb (getD consumer i 0) p) m + k
+  beyond : (p k : ℕ) → m + k ≤ LINKS → 1 ≤ p → count (λ i. ltb (getD consumer i 0) p) (m + k) ≡ count (λ i. ltb (getD consumer i 0) p) m + k
   unfolding count
-  beyond p zero h = let e : m + 0 ≡ m = omega arith in rw e (omega arith)
-  beyond p (suc k) h =
+  beyond p zero g h = let e : m + 0 ≡ m = omega arith in rw e (omega arith)
+  beyond p (suc k) g h =
       let e : m + suc k ≡ suc (m + k) = omega arith in
-      let f = beyond p k h in
-      let y : ltb (getD consumer (m + k) 0) p ≡ true = rw (a .rest (m + k) (omega arith)) (lt-ltb 0 p h) in
+      let f = beyond p k (omega arith) h in
+      let y : ltb (getD consumer (m + k) 0) p ≡ true = rw (a .rest (m + k) (omega arith) (omega arith)) (lt-ltb 0 p h) in
       let b : bit (ltb (getD consumer (m + k) 0) p) ≡ 1 = ap bit y in
       rw e (omega arith)
 
-  all-rows : (p rows : ℕ) → m ≤ rows → 1 ≤ p → count (λ i. ltb (getD consumer i 0) p) rows ≡ count (λ i. ltb (getD consumer i 0) p) m + (rows - m)
-  all-rows p rows l h = let e : m + (rows - m) ≡ rows = omega arith in rw e at (beyond p (rows - m) h)
+  all-rows : (p rows : ℕ) → m ≤ rows → rows ≤ LINKS → 1 ≤ p → count (λ i. ltb (getD consumer i 0) p) rows ≡ count (λ i. ltb (getD consumer i 0) p) m + (rows - m)
+  all-rows p rows l g h = let e : m + (rows - m) ≡ rows = omega arith in rw e at (beyond p (rows - m) (omega arith) h)
 
   none-below-0 : (rows : ℕ) → count (λ i. ltb (getD consumer i 0) 0) rows ≡ 0
   unfolding count
@@ -76,9 +77,9 @@ module _ {consumer : List ℕ} {m : ℕ} (a : Ascending consumer m) where
   none-below-0 (suc k) = let f = none-below-0 k in let b : bit (ltb (getD consumer k 0) 0) ≡ 0 = ap bit (le-ltb (getD consumer k 0) 0 (omega arith)) in omega arith
 
   -- what is left of the rows counted when the unused ones are taken off
-  pub used-rows : (p rows : ℕ) → m ≤ rows → count (λ i. ltb (getD consumer i 0) p) rows - (rows - m) ≡ count (λ i. ltb (getD consumer i 0) p) m
-  used-rows zero rows l = let a = none-below-0 rows in let b = none-below-0 m in omega arith
-  used-rows (suc p) rows l = let a = all-rows (suc p) rows l (omega arith) in omega arith
+  pub used-rows : (p rows : ℕ) → m ≤ rows → rows ≤ LINKS → count (λ i. ltb (getD consumer i 0) p) rows - (rows - m) ≡ count (λ i. ltb (getD consumer i 0) p) m
+  used-rows zero rows l g = let a = none-below-0 rows in let b = none-below-0 m in omega arith
+  used-rows (suc p) rows l g = let a = all-rows (suc p) rows l g (omega arith) in omega arith
 
   -- before the first link of p there is none of p
   pub none-before : (p j : ℕ) → j < count (λ i. ltb (getD consumer i 0) p) m → getD consumer j 0 ≡ p → ⊥
