@@ -12,6 +12,7 @@ ghost use Rattle.model.specs.Requests.{suspendTest};
 ghost use Rattle.model.specs.SoundTest.{columnTest, tableTest, sameTest, parentSupplies, linkSupplies, keptTest, carriedTest, steadyTest, allSteady, othersSteady, noneTest, suspendOpenTest, resumeOpenTest, idleOpenTest, callbackTest, soundTest};
 ghost use Rattle.model.specs.Table.{wired};
 ghost use Rattle.model.specs.Lent.{devicesFrom, ofStatus, ofUse};
+ghost use Rattle.links.specs.Ascending.{Ascending};
 ghost use Rattle.soundness.specs.Lent.{stateFrom, RowOf, rowTest, spareTest, childBit, liveBit, otherSteady, entriesTest, wiringTest, countsTest, devicesTest, clearTest, ownTest};
 use model::DEVICES;
 use model::LINKS;
@@ -123,14 +124,13 @@ fn parents_good(n: usize, parent: &[u8; ROWS]) -> bool
     requires { ⌜ n ≤ ROWS ⌝ }
     ensures { λ r. ⌜ r ≡ all (λ p. parentGood p (getD (now (parent .entry)) p 0)) n ⌝ }
 {
+    let mut good = true;
     let mut p: usize = 0;
     while p < n {
-        if !parent_good(p, parent[p]) {
-            return false;
-        }
+        good = both(parent_good(p, parent[p]), good);
         p += 1;
     }
-    true
+    good
 }
 
 // The consumer is one of n devices, and the supplier lower than the consumer.
@@ -148,14 +148,13 @@ fn links_fit<'a>(n: usize, m: usize, consumer: &'a [u8; LINKS], supplier: &'a [u
     requires { ⌜ m ≤ LINKS ⌝ }
     ensures { λ r. ⌜ r ≡ all (λ i. endsGood n (getD (now (consumer .entry)) i 0) (getD (now (supplier .entry)) i 0)) m ⌝ }
 {
+    let mut good = true;
     let mut i: usize = 0;
     while i < m {
-        if !ends_good(n, consumer[i], supplier[i]) {
-            return false;
-        }
+        good = both(ends_good(n, consumer[i], supplier[i]), good);
         i += 1;
     }
-    true
+    good
 }
 
 // Each of m links comes before the next.
@@ -163,14 +162,16 @@ fn links_ascend<'a>(m: usize, consumer: &'a [u8; LINKS], supplier: &'a [u8; LINK
     requires { ⌜ m ≤ LINKS ⌝ }
     ensures { λ r. ⌜ r ≡ all (λ i. before (getD (now (consumer .entry)) i 0) (getD (now (supplier .entry)) i 0) (getD (now (consumer .entry)) (i + 1) 0) (getD (now (supplier .entry)) (i + 1) 0)) (m - 1) ⌝ }
 {
+    let mut good = true;
     let mut i: usize = 0;
     while i + 1 < m {
-        if !table::comes_before(consumer[i], supplier[i], consumer[i + 1], supplier[i + 1]) {
-            return false;
-        }
+        good = both(
+            table::comes_before(consumer[i], supplier[i], consumer[i + 1], supplier[i + 1]),
+            good,
+        );
         i += 1;
     }
-    true
+    good
 }
 
 // The entries keep the rules of a table.
@@ -794,6 +795,7 @@ fn resume_open<'a>(
     target: u8,
 ) -> bool
     requires { ⌜ m ≤ LINKS ⌝ }
+    requires { ⌜ Ascending (now consumer) m ⌝ }
     ensures { λ r. ⌜ r ≡ resumeOpenTest (stateFrom n m (now (parent .entry)) (now (ignore .entry)) (now (consumer .entry)) (now (supplier .entry)) (now (flags .entry)) (now (status .entry)) [] (now (depth .entry)) (now (error .entry)) [] [] 0 0 0 [] 0) asked target ⌝ }
 {
     if n <= target {
@@ -893,6 +895,7 @@ fn callback_good<'a>(
     target: u8,
 ) -> bool
     requires { ⌜ m ≤ LINKS ⌝ }
+    requires { ⌜ Ascending (now consumer) m ⌝ }
     ensures { λ r. ⌜ r ≡ callbackTest (stateFrom n m (now (parent .entry)) (now (ignore .entry)) (now (consumer .entry)) (now (supplier .entry)) (now (flags .entry)) (now (status .entry)) (now (holds .entry)) (now (depth .entry)) (now (error .entry)) (now (children .entry)) (now (linked .entry)) callback asked target [] 0) ⌝ }
 {
     if callback == 2 {

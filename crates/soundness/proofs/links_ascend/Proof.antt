@@ -1,26 +1,25 @@
--- `soundness::links_ascend` meets its contract. The invariant: each link passed comes before the next. Assumes nothing.
-use mathlib.Core.Path.{_≡_}
-use mathlib.Core.Bool.{true}
-use Prim.Native.Nat.{ℕ, _+_, _-_, _<_, _≤_}
+-- `soundness::links_ascend` meets its contract. The invariant: `good` is the test of the links passed. Assumes nothing.
+use mathlib.Core.Path.{_≡_, refl}
+use Prim.Native.Nat.{_+_, _-_, _≤_}
 use native.Mathlib.Omega.{arith}
 use lib.ListN.{getD}
-use borrow.Author.Count.{below-more}
 use Rattle.model.specs.Limits.{LINKS}
+use Rattle.model.specs.Tests.{all}
 use Rattle.model.specs.Table.{before}
-use Rattle.soundness.proofs.Chains.{passed, failed}
-use Rattle.soundness.proofs.Loops.{all-passed, all-failed}
+use Rattle.soundness.proofs.Loops.{all-next, all-done}
 use borrow.Author.Needs.{needs}
 use Rattle.soundness.proofs.links_ascend.Statement.{statement}
 use Rattle.soundness.proofs.links_ascend.Tie as tie
 
 abbrev Inv-loop : tie.InvT-loop
-Inv-loop m consumer supplier i₀ i = (i ≤ (m - 1)) × ((j : ℕ) → j < i → before (getD consumer j 0) (getD supplier j 0) (getD consumer (j + 1) 0) (getD supplier (j + 1) 0) ≡ true)
+Inv-loop m consumer supplier good₀ i₀ good i = (i ≤ (m - 1)) × (good ≡ all (λ j. before (getD consumer j 0) (getD supplier j 0) (getD consumer (j + 1) 0) (getD supplier (j + 1) 0)) i)
 
 abbrev μ-loop : tie.MeasureT-loop
-μ-loop m consumer supplier i₀ i = (m - 1) - i
+μ-loop m consumer supplier good₀ i₀ good i = (m - 1) - i
 
 loop-holds : tie.Need-loop-holds Inv-loop μ-loop
-loop-holds c = (omega arith, λ j l. absurd (omega arith))
+unfolding all
+loop-holds c = (omega arith, refl)
 
 add-loop : tie.Need-add-loop Inv-loop μ-loop
 unfolding LINKS
@@ -50,9 +49,6 @@ element-copy-out-comes-before-4 : tie.Need-element-copy-out-comes-before-4 Inv-l
 unfolding LINKS
 element-copy-out-comes-before-4 c = omega arith
 
-returns : tie.Need-returns Inv-loop μ-loop
-returns c = all-failed _ _ _ (omega arith) (failed (c .before .comes-before .ensures) (c .if1 .taken))
-
 add-i : tie.Need-add-i Inv-loop μ-loop
 unfolding LINKS
 add-i c = omega arith
@@ -63,10 +59,10 @@ loop-less c = omega arith
 
 loop-again : tie.Need-loop-again Inv-loop μ-loop
 unfolding LINKS
-loop-again c = (omega arith, below-more _ _ (c .before .before .before .before .before .before .before .loop .inv .1) (passed (c .before .comes-before .ensures) (c .if1 .left)))
+loop-again c = (omega arith, all-next _ _ (c .before .comes-before .ensures) (c .before .before .before .before .before .before .before .loop .inv .1) (c .both .ensures))
 
-returns-2 : tie.Need-returns-2 Inv-loop μ-loop
-returns-2 c = all-passed _ _ _ (omega arith) (c .before .loop .inv .1)
+returns : tie.Need-returns Inv-loop μ-loop
+returns c = all-done _ _ _ (c .before .loop .inv .0) (omega arith) (c .before .loop .inv .1)
 
 pub links-ascend-spec : {M : Type 1} → statement M
-links-ascend-spec = tie.close (tie.spec Inv-loop μ-loop loop-holds add-loop element-copy-out-comes-before element-copy-out-comes-before-2 add-comes-before element-copy-out-comes-before-3 add-comes-before-2 element-copy-out-comes-before-4 (λ c κs. search needs) returns add-i loop-less loop-again returns-2)
+links-ascend-spec = tie.close (tie.spec Inv-loop μ-loop loop-holds add-loop element-copy-out-comes-before element-copy-out-comes-before-2 add-comes-before element-copy-out-comes-before-3 add-comes-before-2 element-copy-out-comes-before-4 (λ c κs. search needs) (λ c κs. search needs) add-i loop-less loop-again returns)

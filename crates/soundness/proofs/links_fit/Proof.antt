@@ -1,26 +1,25 @@
--- `soundness::links_fit` meets its contract. The invariant: the links passed are good. Assumes nothing.
-use mathlib.Core.Path.{_≡_}
-use mathlib.Core.Bool.{true}
-use Prim.Native.Nat.{ℕ, _-_, _<_, _≤_}
+-- `soundness::links_fit` meets its contract. The invariant: `good` is the test of the links passed. Assumes nothing.
+use mathlib.Core.Path.{_≡_, refl}
+use Prim.Native.Nat.{_-_, _≤_}
 use native.Mathlib.Omega.{arith}
 use lib.ListN.{getD}
-use borrow.Author.Count.{below-more}
 use Rattle.model.specs.Limits.{LINKS}
+use Rattle.model.specs.Tests.{all}
 use Rattle.model.specs.Table.{endsGood}
-use Rattle.soundness.proofs.Chains.{passed, failed}
-use Rattle.soundness.proofs.Loops.{all-passed, all-failed}
+use Rattle.soundness.proofs.Loops.{all-next, all-done}
 use borrow.Author.Needs.{needs}
 use Rattle.soundness.proofs.links_fit.Statement.{statement}
 use Rattle.soundness.proofs.links_fit.Tie as tie
 
 abbrev Inv-loop : tie.InvT-loop
-Inv-loop n m consumer supplier i₀ i = (i ≤ m) × ((j : ℕ) → j < i → endsGood n (getD consumer j 0) (getD supplier j 0) ≡ true)
+Inv-loop n m consumer supplier good₀ i₀ good i = (i ≤ m) × (good ≡ all (λ j. endsGood n (getD consumer j 0) (getD supplier j 0)) i)
 
 abbrev μ-loop : tie.MeasureT-loop
-μ-loop n m consumer supplier i₀ i = m - i
+μ-loop n m consumer supplier good₀ i₀ good i = m - i
 
 loop-holds : tie.Need-loop-holds Inv-loop μ-loop
-loop-holds c = (omega arith, λ j l. absurd (omega arith))
+unfolding all
+loop-holds c = (omega arith, refl)
 
 element-copy-out-ends-good : tie.Need-element-copy-out-ends-good Inv-loop μ-loop
 unfolding LINKS
@@ -29,9 +28,6 @@ element-copy-out-ends-good c = omega arith
 element-copy-out-ends-good-2 : tie.Need-element-copy-out-ends-good-2 Inv-loop μ-loop
 unfolding LINKS
 element-copy-out-ends-good-2 c = omega arith
-
-returns : tie.Need-returns Inv-loop μ-loop
-returns c = all-failed _ _ _ (c .before .before .before .before .loop-test .taken) (failed (c .before .ends-good .ensures) (c .if1 .taken))
 
 add-i : tie.Need-add-i Inv-loop μ-loop
 unfolding LINKS
@@ -43,10 +39,10 @@ loop-less c = omega arith
 
 loop-again : tie.Need-loop-again Inv-loop μ-loop
 unfolding LINKS
-loop-again c = (omega arith, below-more _ _ (c .before .before .before .before .before .loop .inv .1) (passed (c .before .ends-good .ensures) (c .if1 .left)))
+loop-again c = (omega arith, all-next _ _ (c .before .ends-good .ensures) (c .before .before .before .before .before .loop .inv .1) (c .both .ensures))
 
-returns-2 : tie.Need-returns-2 Inv-loop μ-loop
-returns-2 c = all-passed _ _ _ (c .loop-test .left) (c .before .loop .inv .1)
+returns : tie.Need-returns Inv-loop μ-loop
+returns c = all-done _ _ _ (c .before .loop .inv .0) (c .loop-test .left) (c .before .loop .inv .1)
 
 pub links-fit-spec : {M : Type 1} → statement M
-links-fit-spec = tie.close (tie.spec Inv-loop μ-loop loop-holds element-copy-out-ends-good element-copy-out-ends-good-2 (λ c κs. search needs) returns add-i loop-less loop-again returns-2)
+links-fit-spec = tie.close (tie.spec Inv-loop μ-loop loop-holds element-copy-out-ends-good element-copy-out-ends-good-2 (λ c κs. search needs) (λ c κs. search needs) add-i loop-less loop-again returns)

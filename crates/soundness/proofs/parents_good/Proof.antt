@@ -1,33 +1,29 @@
--- `soundness::parents_good` meets its contract. The invariant: the parents passed are good. Assumes nothing.
-use mathlib.Core.Path.{_≡_}
-use mathlib.Core.Bool.{true}
-use Prim.Native.Nat.{ℕ, _-_, _<_, _≤_}
+-- `soundness::parents_good` meets its contract. The invariant: `good` is the test of the parents passed. Assumes nothing.
+use mathlib.Core.Path.{_≡_, refl}
+use Prim.Native.Nat.{_-_, _≤_}
 use native.Mathlib.Omega.{arith}
 use lib.ListN.{getD}
-use borrow.Author.Count.{below-more}
 use Rattle.model.specs.Limits.{ROWS}
+use Rattle.model.specs.Tests.{all}
 use Rattle.model.specs.Table.{parentGood}
-use Rattle.soundness.proofs.Chains.{passed, failed}
-use Rattle.soundness.proofs.Loops.{all-passed, all-failed}
+use Rattle.soundness.proofs.Loops.{all-next, all-done}
 use borrow.Author.Needs.{needs}
 use Rattle.soundness.proofs.parents_good.Statement.{statement}
 use Rattle.soundness.proofs.parents_good.Tie as tie
 
 abbrev Inv-loop : tie.InvT-loop
-Inv-loop n parent p₀ p = (p ≤ n) × ((j : ℕ) → j < p → parentGood j (getD parent j 0) ≡ true)
+Inv-loop n parent good₀ p₀ good p = (p ≤ n) × (good ≡ all (λ j. parentGood j (getD parent j 0)) p)
 
 abbrev μ-loop : tie.MeasureT-loop
-μ-loop n parent p₀ p = n - p
+μ-loop n parent good₀ p₀ good p = n - p
 
 loop-holds : tie.Need-loop-holds Inv-loop μ-loop
-loop-holds c = (omega arith, λ j l. absurd (omega arith))
+unfolding all
+loop-holds c = (omega arith, refl)
 
 element-copy-out-parent-good : tie.Need-element-copy-out-parent-good Inv-loop μ-loop
 unfolding ROWS
 element-copy-out-parent-good c = omega arith
-
-returns : tie.Need-returns Inv-loop μ-loop
-returns c = all-failed _ _ _ (c .before .before .before .loop-test .taken) (failed (c .before .parent-good .ensures) (c .if1 .taken))
 
 add-p : tie.Need-add-p Inv-loop μ-loop
 unfolding ROWS
@@ -39,10 +35,10 @@ loop-less c = omega arith
 
 loop-again : tie.Need-loop-again Inv-loop μ-loop
 unfolding ROWS
-loop-again c = (omega arith, below-more _ _ (c .before .before .before .before .loop .inv .1) (passed (c .before .parent-good .ensures) (c .if1 .left)))
+loop-again c = (omega arith, all-next _ _ (c .before .parent-good .ensures) (c .before .before .before .before .loop .inv .1) (c .both .ensures))
 
-returns-2 : tie.Need-returns-2 Inv-loop μ-loop
-returns-2 c = all-passed _ _ _ (c .loop-test .left) (c .before .loop .inv .1)
+returns : tie.Need-returns Inv-loop μ-loop
+returns c = all-done _ _ _ (c .before .loop .inv .0) (c .loop-test .left) (c .before .loop .inv .1)
 
 pub parents-good-spec : {M : Type 1} → statement M
-parents-good-spec = tie.close (tie.spec Inv-loop μ-loop loop-holds element-copy-out-parent-good (λ c κs. search needs) returns add-p loop-less loop-again returns-2)
+parents-good-spec = tie.close (tie.spec Inv-loop μ-loop loop-holds element-copy-out-parent-good (λ c κs. search needs) (λ c κs. search needs) add-p loop-less loop-again returns)

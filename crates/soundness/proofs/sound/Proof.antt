@@ -3,7 +3,7 @@ use Rattle.model.specs.WakeSet.{inWake, lowest}
 use Rattle.model.specs.Requests.{suspendTest, barred}
 use Rattle.model.specs.SoundTest.{steadyTest, allSteady, othersSteady, membersClear, noneTest, suspendOpenTest, resumeOpenTest, idleOpenTest, callbackTest, soundTest}
 use Rattle.soundness.proofs.Chains.{and-go, and-stop, passed, failed}
-use Rattle.soundness.proofs.Parts.{kept-links}
+use Rattle.soundness.proofs.Parts.{kept-links, kept-ascends}
 use borrow.Author.Needs.{needs}
 use Rattle.soundness.proofs.sound.Statement.{statement}
 use Rattle.soundness.proofs.sound.Tie as tie
@@ -17,7 +17,7 @@ unfolding soundTest
 returns-2 c = and-go (passed (c .before .before .before .kept-good .ensures) (c .before .before .if1 .left)) (and-stop _ (failed (c .before .carried-good .ensures) (c .if2 .taken)))
 
 callback-good-requires : tie.Need-callback-good-requires
-callback-good-requires c κs = kept-links _ _ (passed (c .before .before .before .kept-good .ensures) (c .before .before .if1 .left))
+callback-good-requires c κs = let e = passed (c .before .before .before .kept-good .ensures) (c .before .before .if1 .left) in (kept-links _ _ e, kept-ascends _ _ e)
 
 returns-3 : tie.Need-returns-3
 unfolding soundTest callbackTest noneTest allSteady steadyTest suspendOpenTest othersSteady suspendTest resumeOpenTest lowest inWake membersClear barred idleOpenTest
