@@ -1,11 +1,12 @@
 -- Bytes as whole records, and replies in their places: what the loop over a piece cites. Assumes nothing.
 use mathlib.Core.Path.{_≡_, refl, sym, _∙_, ap}
 use mathlib.Core.List.{List, [], _∷_, _++_, append-assoc}
-use Prim.Native.Nat.{ℕ, zero, suc, _+_, _*_, _/_, _%_, _<_, _≤_}
+use Prim.Native.Nat.{ℕ, zero, suc, _+_, _-_, _*_, _/_, _%_, _<_, _≤_}
 use native.Mathlib.Omega.{arith}
 use native.Mathlib.Nat.{add-zero}
 use lib.ListN.{length, getD, set, take, drop, replicate, length-append, length-drop, take-append-drop}
 use lib.Seq.{length-take-le, drop-cons, drop-drop, take-at, drop-at, getD-take, getD-drop, getD-append-add, sets-eq}
+use Rattle.model.specs.Limits.{MAXPIECE}
 use Rattle.model.specs.Tests.{if_then_else_}
 use Rattle.model.specs.Table.{Wiring}
 use Rattle.model.specs.State.{State, Devices, Callback, Carry, withCarry}
@@ -16,7 +17,7 @@ use Rattle.model.specs.Feed.{over}
 use Rattle.model.specs.Lent.{lent}
 use Rattle.model.proofs.Records.{record-sound}
 use Rattle.model.proofs.Running.{run-joined}
-use Rattle.feeding.specs.Pieces.{At, recordIn, restIn, overAt, Room, nothing}
+use Rattle.feeding.specs.Pieces.{Whole, recordIn, restIn, overAt, Room, nothing}
 
 -- ---- a byte of the joined bytes
 module _ (carried piece : List ℕ) (used : ℕ) (few : used ≤ length carried) where
@@ -28,6 +29,10 @@ module _ (carried piece : List ℕ) (used : ℕ) (few : used ≤ length carried)
       let l = length-take-le used carried few in
       let n : length (take used carried) + k ≡ i = omega arith in
       sym (rw n at (getD-append-add (take used carried) piece k 0))
+
+  pub record-after : (i : ℕ) → used ≤ i → recordIn piece (i - used) ≡ recordIn (take used carried ++ piece) i
+  unfolding recordIn
+  record-after i h = rw (piece-at i (i - used) (omega arith), piece-at (i + 1) (i - used + 1) (omega arith), piece-at (i + 2) (i - used + 2) (omega arith), piece-at (i + 3) (i - used + 3) (omega arith))
 
   pub joined-length : length (take used carried ++ piece) ≡ used + length piece
   joined-length = rw (length-append, length-take-le used carried few)
@@ -188,8 +193,11 @@ module _ {carried : List ℕ} {used : ℕ} {piece before : List ℕ} {count k : 
   pub reply-fits : k < count → 4 * k + 4 ≤ length out
   reply-fits h = let e = t .many in let r = t .room .room in let l = t .looping .long in omega arith
 
-  pub at-record : k < count → At used (4 * k)
-  at-record h = let e = whole-record h in let r = t .room .short in let f = t .room .few in record { few = f; near = omega arith }
+  pub at-record : k < count → Whole used piece (4 * k)
+  at-record h = record { few = t .room .few; short = t .room .short; fits = whole-record h }
+
+  pub near : k < count → 4 * k ≤ MAXPIECE + 3
+  near h = let e = whole-record h in let r = t .room .short in let f = t .room .few in omega arith
 
   pub turning-more : k < count → {w₂ : Wiring} {d₂ : Devices} {c₂ : Callback} {r : Reply} {out₂ : List ℕ} → (Sound (lent w₁ d₁ c₁ nothing) → recordStep (lent w₁ d₁ c₁ nothing) (recordIn (take used carried ++ piece) (4 * k)) ≡ record { state = lent w₂ d₂ c₂ nothing; reply = r }) → out₂ ≡ overAt (4 * k) (replyBytes r) out → Turning carried used piece before count (k + 1) s₀ (lent w₂ d₂ c₂ nothing) out₂
   turning-more h f e =

@@ -41,6 +41,12 @@ pub record At (used i : ℕ) : Type 0 where
   pub few : used ≤ 3
   pub near : i ≤ MAXPIECE + 3
 
+-- a whole record stands at byte i of at most 3 carried bytes and a short piece
+pub record Whole (used : ℕ) (piece : List ℕ) (i : ℕ) : Type 0 where
+  pub few : used ≤ 3
+  pub short : length piece ≤ MAXPIECE
+  pub fits : i + 4 ≤ used + length piece
+
 -- the record at byte i
 unfoldable pub recordIn : List ℕ → ℕ → Rec
 recordIn w i = recordOf (getD w i 0) (getD w (i + 1) 0) (getD w (i + 2) 0) (getD w (i + 3) 0)

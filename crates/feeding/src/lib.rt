@@ -3,12 +3,13 @@ ghost use mathlib.Core.Path.{_≡_};
 ghost use mathlib.Core.List.{_++_};
 ghost use Prim.Native.Nat.{_+_, _*_, _≤_};
 ghost use lib.ListN.{length, getD, take};
+ghost use Rattle.model.specs.Limits.{MAXPIECE};
 ghost use Rattle.model.specs.Table.{wired};
 ghost use Rattle.model.specs.Records.{replyBytes};
 ghost use Rattle.model.specs.Lent.{devicesFrom};
 ghost use Rattle.requests.specs.Answers.{replyOf};
 ghost use Rattle.records.specs.Records.{recOf};
-ghost use Rattle.feeding.specs.Pieces.{At, recordIn, restIn, overAt, refusedFed, Room, Ran, FedFrom};
+ghost use Rattle.feeding.specs.Pieces.{At, Whole, recordIn, restIn, overAt, refusedFed, Room, Ran, FedFrom};
 use model::LINKS;
 use model::PIECE;
 use model::ROWS;
@@ -56,11 +57,26 @@ fn byte(carried: [u8; 3], used: usize, piece: &[u8], i: usize) -> u8
     table::byte_at(piece, i - used)
 }
 
-// The record at byte i of the carried bytes and the piece.
+// The record at byte j of the piece, read whole.
+fn record_in(piece: &[u8], j: usize) -> Record
+    requires { ⌜ (j + 4 ≤ length (now piece)) × (length (now piece) ≤ MAXPIECE) ⌝ }
+    ensures { λ r. ⌜ recOf r ≡ recordIn (now (piece .entry)) j ⌝ }
+{
+    Record {
+        kind: piece[j],
+        device: piece[j + 1],
+        value: word(piece[j + 2], piece[j + 3]),
+    }
+}
+
+// The record at byte i of the carried bytes and the piece. Only the first can have carried bytes.
 fn record_at(carried: [u8; 3], used: usize, piece: &[u8], i: usize) -> Record
-    requires { ⌜ At used i ⌝ }
+    requires { ⌜ Whole used (now piece) i ⌝ }
     ensures { λ r. ⌜ recOf r ≡ recordIn (take used carried ++ now (piece .entry)) i ⌝ }
 {
+    if used <= i {
+        return record_in(piece, i - used);
+    }
     let kind = byte(carried, used, piece, i);
     let device = byte(carried, used, piece, i + 1);
     let low = byte(carried, used, piece, i + 2);

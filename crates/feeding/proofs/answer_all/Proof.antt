@@ -7,7 +7,7 @@ use Rattle.model.specs.Table.{wired}
 use Rattle.model.specs.Lent.{lent, devicesFrom}
 use Rattle.requests.specs.Answers.{callbackOf}
 use Rattle.feeding.specs.Pieces.{nothing}
-use Rattle.feeding.proofs.Joining.{Turning, looping-start, whole-record, reply-fits, at-record, turning-more, turning-end}
+use Rattle.feeding.proofs.Joining.{Turning, looping-start, reply-fits, at-record, near, turning-more, turning-end}
 use borrow.Author.Needs.{needs}
 use Rattle.feeding.proofs.answer_all.Statement.{statement}
 use Rattle.feeding.proofs.answer_all.Tie as tie
@@ -24,19 +24,19 @@ loop-holds : tie.Need-loop-holds Inv-loop μ-loop
 loop-holds c = record { room = c .before .before .pre; rows = search needs; many = refl; within = omega arith; looping = looping-start _ _ _ }
 
 mul-record-at : tie.Need-mul-record-at Inv-loop μ-loop
-mul-record-at c = let e = at-record (c .before .loop .inv) (c .loop-test .taken) .near in omega arith
+mul-record-at c = let e = near (c .before .loop .inv) (c .loop-test .taken) in omega arith
 
 record-at-requires : tie.Need-record-at-requires Inv-loop μ-loop
 record-at-requires c κs = at-record (c .before .loop .inv) (c .loop-test .taken)
 
 mul-write-reply : tie.Need-mul-write-reply Inv-loop μ-loop
-mul-write-reply c = let e = at-record (c .before .before .before .before .before .before .before .before .before .before .before .before .loop .inv) (c .before .before .before .before .before .before .before .before .before .before .before .loop-test .taken) .near in omega arith
+mul-write-reply c = let e = near (c .before .before .before .before .before .before .before .before .before .before .before .before .loop .inv) (c .before .before .before .before .before .before .before .before .before .before .before .loop-test .taken) in omega arith
 
 write-reply-requires : tie.Need-write-reply-requires Inv-loop μ-loop
 write-reply-requires c κs = reply-fits (c .before .before .before .before .before .before .before .before .before .before .before .before .loop .inv) (c .before .before .before .before .before .before .before .before .before .before .before .loop-test .taken)
 
 add-k : tie.Need-add-k Inv-loop μ-loop
-add-k c = let e = at-record (c .before .before .before .before .before .before .before .before .before .before .before .before .before .before .before .loop .inv) (c .before .before .before .before .before .before .before .before .before .before .before .before .before .before .loop-test .taken) .near in omega arith
+add-k c = let e = near (c .before .before .before .before .before .before .before .before .before .before .before .before .before .before .before .loop .inv) (c .before .before .before .before .before .before .before .before .before .before .before .before .before .before .loop-test .taken) in omega arith
 
 loop-less : tie.Need-loop-less Inv-loop μ-loop
 loop-less c = omega (arith, c .before .before .before .before .before .before .before .before .before .before .before .before .before .before .loop-test .taken)
