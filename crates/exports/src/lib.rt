@@ -5,6 +5,7 @@ ghost use Rattle.model.specs.Limits.{LINKS};
 ghost use Rattle.model.specs.Tests.{first};
 ghost use Rattle.model.specs.WakeSet.{marked, wakeMarks};
 ghost use Rattle.model.specs.Table.{wired};
+ghost use Rattle.links.specs.Ascending.{Ascending};
 ghost use Rattle.wakeset.specs.Marks.{Above};
 ghost use Rattle.counts.specs.Shifts.{Turned};
 ghost use Rattle.model.specs.SoundTest.{soundTest};
@@ -153,7 +154,7 @@ pub extern "C" fn keeper_wake_set<'a>(
     t: u8,
     out: &mut [bool; ROWS],
 )
-    ensures { λ _. ⌜ (t < n → m ≤ LINKS → now (out .exit) ≡ wakeMarks (wired n m (now (parent .entry)) (now (ignore .entry)) (now (consumer .entry)) (now (supplier .entry)) (now (flags .entry))) (now (status .entry)) t) ⌝ }
+    ensures { λ _. ⌜ (t < n → m ≤ LINKS → Ascending (now (consumer .entry)) m → now (out .exit) ≡ wakeMarks (wired n m (now (parent .entry)) (now (ignore .entry)) (now (consumer .entry)) (now (supplier .entry)) (now (flags .entry))) (now (status .entry)) t) ⌝ }
 {
     *out = wakeset::wake_set(parent, ignore, status, consumer, supplier, flags, n, m, t);
 }
@@ -171,7 +172,7 @@ pub extern "C" fn keeper_lowest<'a>(
     m: u16,
     t: u8,
 ) -> u8
-    ensures { λ r. ⌜ (t < n → m ≤ LINKS → r ≡ first (marked (wakeMarks (wired n m (now (parent .entry)) (now (ignore .entry)) (now (consumer .entry)) (now (supplier .entry)) (now (flags .entry))) (now (status .entry)) t)) n) ⌝ }
+    ensures { λ r. ⌜ (t < n → m ≤ LINKS → Ascending (now (consumer .entry)) m → r ≡ first (marked (wakeMarks (wired n m (now (parent .entry)) (now (ignore .entry)) (now (consumer .entry)) (now (supplier .entry)) (now (flags .entry))) (now (status .entry)) t)) n) ⌝ }
 {
     let marks = wakeset::wake_set(parent, ignore, status, consumer, supplier, flags, n, m, t);
     wakeset::lowest(marks, n)

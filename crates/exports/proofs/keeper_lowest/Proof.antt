@@ -9,7 +9,7 @@ use Rattle.exports.proofs.keeper_lowest.Statement.{statement}
 use Rattle.exports.proofs.keeper_lowest.Tie as tie
 
 returns : tie.Need-returns
-returns c = λ l m. c .lowest .ensures ∙ ap (λ (ms : List Bool). first (marked ms) (c .before .before .args .n)) (c .before .wake-set .ensures l m)
+returns c = λ l m a. c .lowest .ensures ∙ ap (λ (ms : List Bool). first (marked ms) (c .before .before .args .n)) (c .before .wake-set .ensures l m a)
 
 pub keeper-lowest-spec : {M : Type 1} → statement M
 keeper-lowest-spec = tie.close (tie.spec (λ c κs. search needs) (λ c κs. search needs) returns)
