@@ -8,7 +8,7 @@ COUNT ?= 100
 TABLES ?= 100000
 BENCHES ?= 2000
 RECORDS ?= 30000
-FEEDS ?= 60000
+FEEDS ?= 100000
 # one core for the times, where that can be asked for
 PIN := $(shell command -v taskset > /dev/null && echo taskset -c 0)
 

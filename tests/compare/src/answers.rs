@@ -6,7 +6,7 @@ use second::{
 };
 
 /// From so many benches on, every answer must have been met.
-const ENOUGH: u64 = 200;
+pub const ENOUGH: u64 = 200;
 
 /// The classes of answers: finished with a code, asks, refusals by their number.
 const CLASSES: [&str; 17] = [

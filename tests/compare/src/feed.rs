@@ -1,7 +1,7 @@
 //! Random logs from random sound benches, cut into random pieces with refused ones between: what
 //! each piece is answered, the whole reply buffer and the whole bench of both keepers.
 
-use crate::answers;
+use crate::answers::{self, ENOUGH};
 use crate::keeper::Columns;
 use crate::logs::{Cut, Log};
 use crate::records::difference;
@@ -10,9 +10,6 @@ use second::generate::damage::damaged;
 use second::generate::random::Random;
 use second::{Bench, MAX_PIECE};
 use std::time::{Duration, Instant};
-
-/// From so many logs on, everything must have been met.
-const ENOUGH: u64 = 200;
 
 /// Compares the keepers on so many logs: the tally, or the first difference.
 pub fn compare(seed: u64, count: u64) -> Result<String, String> {
@@ -175,7 +172,7 @@ impl<'a> Pair<'a> {
 }
 
 /// One piece to both, with a buffer of these bytes: the replies, or the number that both refuse it
-/// with; or else how the two differ.
+/// with; else how the two differ.
 fn same(
     keeper: &mut Columns,
     second: &mut Bench,
@@ -242,11 +239,11 @@ impl Tally {
         Ok(())
     }
 
-    /// Nothing was left out, if there were enough logs.
+    /// Everything was met, if there were enough logs.
     fn complete(&self, logs: u64) -> Result<(), String> {
         let met = [&self.carried[..], &self.open, &self.replies, &self.refused];
         if logs >= ENOUGH && met.concat().contains(&0) {
-            return Err(format!("something was never met: {}", self.shown()));
+            return Err(format!("a count is 0: {}", self.shown()));
         }
         self.answers.complete(logs)
     }

@@ -345,8 +345,8 @@ impl Columns {
         }
     }
 
-    /// A piece of log: how many replies were written, or the refusal's number (with 256 times the
-    /// number of replies, which there are none of).
+    /// A piece of log: how many replies were written, or the number of the
+    /// refusal, which is the whole answer.
     pub fn feed(&mut self, piece: &[u8], replies: &mut [u8]) -> Result<usize, u32> {
         // SAFETY: the function reads the columns and the piece, writes the seven
         // columns lent for that, the carried bytes, the scalars and the replies, and nothing else.

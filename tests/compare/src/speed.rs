@@ -109,8 +109,8 @@ fn log() -> (Bench, Vec<u8>) {
     (start, log)
 }
 
-/// The host answers the open callback; else it enables a device, sets it right
-/// after an error, gives up one that it holds, or asks something of another.
+/// The host answers the open callback; else it sets the status of a failed or
+/// disabled device, enables it, gives up one that it holds, or asks for another.
 fn next_record(random: &mut Random, bench: &Bench) -> [u8; 4] {
     if bench.callback != NO_CALLBACK && random.percent(98) {
         return write(13, bench.asked, result(random));
@@ -120,13 +120,14 @@ fn next_record(random: &mut Random, bench: &Bench) -> [u8; 4] {
     let kind = if bench.error[row] != 0 {
         random.one_of(&[10, 11])
     } else if bench.depth[row] > 0 {
-        1
+        random.one_of(&[1, 1, 10, 11])
     } else if bench.holds[row] > 0 {
-        random.one_of(&[3, 4, 5, 6, 6, 6, 6, 6])
+        random.one_of(&[3, 5, 6, 6, 6, 6, 6, 6])
     } else {
-        random.one_of(&[2, 4, 4, 4, 4, 4, 7, 7, 7, 8, 8, 8, 8, 9, 9, 12])
+        random.one_of(&[2, 4, 4, 7, 7, 7, 7, 8, 8, 8, 8, 8, 8, 9, 12])
     };
-    write(kind, device, 0)
+    let value = if kind == 12 { random.below(2) } else { 0 };
+    write(kind, device, value as i16)
 }
 
 /// A callback's result: mostly 0, now and then busy, seldom an error.

@@ -21,18 +21,11 @@ impl Bench {
         let (first, piece) = self.complete(piece);
         let (records, rest) = piece.as_chunks();
         self.carry(rest);
-        let (mut replies, _) = replies.as_chunks_mut();
+        let (replies, _) = replies.as_chunks_mut();
+        let (head, tail) = replies.split_at_mut(first.iter().len());
         let mut keeper = Keeper::new(self, sets);
-        if let Some(record) = first {
-            let [reply, after @ ..] = replies else {
-                unreachable!("there is room for every reply")
-            };
-            *reply = keeper.record(record);
-            replies = after;
-        }
-        for (record, reply) in records.iter().zip(replies) {
-            *reply = keeper.record(*record);
-        }
+        keeper.records(first.as_slice(), head);
+        keeper.records(records, tail);
         Ok(whole)
     }
 
