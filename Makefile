@@ -1,4 +1,5 @@
-# make day       the library on the shipped tables, proved, built and run
+# make run       the program replay, proved and built, on the worked day of examples/day
+# make day       the test programs, proved, built and run
 # make test      the gate: every check, ending with the toolchain's verdict
 # make sample    the definitions against the second implementation; SEED and COUNT choose the cases
 # make compare   the proved code against the second implementation; SEED, TABLES, BENCHES, RECORDS and FEEDS choose the cases
@@ -12,15 +13,32 @@ FEEDS ?= 100000
 # one core for the times, where that can be asked for
 PIN := $(shell command -v taskset > /dev/null && echo taskset -c 0)
 
-.PHONY: day test listed second sample harness compare bench
+.PHONY: run replay day test listed second sample harness compare replayed bench
 .NOTPARALLEL:
+
+DAY := examples/day
+
+run: replay
+	@mkdir -p target/day
+	@echo "the log of $(DAY), replayed in pieces of 5 bytes:"
+	@host/target/release/replay $(DAY)/table.bin $(DAY)/log.bin target/day/replies.bin 5
+	@echo "each record of the log, and the reply to it:"
+	@od -An -v -tx1 -w4 $(DAY)/log.bin > target/day/log.txt
+	@od -An -v -tx1 -w4 target/day/replies.bin | paste -d '>' target/day/log.txt - | sed 's/>/  -> /'
+	@cmp target/day/replies.bin $(DAY)/replies.bin && echo "the replies are those of document 01"
+
+# the program, with its exit status
+replay:
+	rt check replay
+	rt staticlib replaying
+	cd host && cargo build --release --offline --quiet
 
 day:
 	rt check day rows
 	target/bin/day
 	target/bin/rows
 
-test: listed second sample compare
+test: listed second sample compare replayed
 	rt ci
 
 # every folder of crates/ stands in crates.txt
@@ -44,6 +62,11 @@ compare: harness
 	tests/compare/target/release/compare benches $(SEED) $(BENCHES)
 	tests/compare/target/release/compare records $(SEED) $(RECORDS)
 	tests/compare/target/release/compare feed $(SEED) $(FEEDS)
+
+# the program on files of every sort
+replayed: replay
+	tests/replay/check
+	tests/replay/check host/target/release/replay statuses
 
 bench: harness
 	$(PIN) tests/compare/target/release/compare bench
