@@ -34,9 +34,10 @@ replay:
 	cd host && cargo build --release --offline --quiet
 
 day:
-	rt check day rows
+	rt check day rows pieces
 	target/bin/day
 	target/bin/rows
+	target/bin/pieces
 
 test: listed second sample compare replayed
 	rt ci

@@ -6,7 +6,8 @@ use bench::Bench;
 use bench::methods::Requested;
 use records::Record;
 
-fn unchanged(before: Bench, after: Bench) {
+// Says so where a bench stayed as it was.
+pub fn unchanged(before: Bench, after: Bench) {
     if same::bench(before, after) {
         print::text(b"; bench as before");
     }

@@ -22,6 +22,16 @@ pub fn decimal(x: u64) {
     io::print_decimal(libc::STDOUT_FILENO, x);
 }
 
+// The line of a comparison.
+pub fn verdict(name: &[u8], ok: bool) {
+    text(name);
+    if ok {
+        text(b": same\n");
+    } else {
+        text(b": DIFFERENT\n");
+    }
+}
+
 // A hexadecimal digit.
 fn digit(x: u8) -> u8
     requires { ⌜ x < 16 ⌝ }
@@ -32,7 +42,8 @@ fn digit(x: u8) -> u8
     b'A' + (x - 10)
 }
 
-fn hex(x: u8) {
+// A byte in hexadecimal.
+pub fn hex(x: u8) {
     let pair = [digit(x / 16), digit(x % 16)];
     text(&pair);
 }

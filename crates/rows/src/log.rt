@@ -3,17 +3,17 @@ ghost use mathlib.Core.Path.{_≡_};
 ghost use Prim.Native.Nat.{_<_, _+_, _*_};
 use bench::Bench;
 use bench::methods::Requested;
+use lines::day;
+use lines::day::BYTES;
 use lines::print;
+use lines::print::verdict;
 use lines::same;
 use lines::steps;
 use records::Record;
 
-// The bytes of the records, and of the replies.
-const LOG: usize = 48;
-
 // The replies of a whole log, and the bench it leaves.
 struct Day {
-    replies: [u8; LOG],
+    replies: [u8; BYTES],
     bench: Bench,
 }
 
@@ -31,7 +31,7 @@ fn value(low: u8, high: u8) -> u16
 }
 
 // Record i of a log.
-fn record_at(log: [u8; LOG], i: usize) -> Record
+fn record_at(log: [u8; BYTES], i: usize) -> Record
     requires { ⌜ i < 12 ⌝ }
 {
     let at = 4 * i;
@@ -54,7 +54,7 @@ fn line(name: &[u8], r: Record, reply: [u8; 4]) {
 }
 
 // Record i one way: its line, its reply put down, and the bench.
-fn turn(name: &[u8], by_method: bool, log: [u8; LOG], i: usize, d: Day) -> Day
+fn turn(name: &[u8], by_method: bool, log: [u8; BYTES], i: usize, d: Day) -> Day
     requires { ⌜ i < 12 ⌝ }
 {
     let bench = d.bench;
@@ -77,9 +77,9 @@ fn turn(name: &[u8], by_method: bool, log: [u8; LOG], i: usize, d: Day) -> Day
 }
 
 // The twelve records one way, a line for each.
-fn run(name: &[u8], by_method: bool, log: [u8; LOG]) -> Day {
+fn run(name: &[u8], by_method: bool, log: [u8; BYTES]) -> Day {
     let mut d = Day {
-        replies: [0u8; LOG],
+        replies: [0u8; BYTES],
         bench: steps::loaded(),
     };
     let mut i: usize = 0;
@@ -90,16 +90,7 @@ fn run(name: &[u8], by_method: bool, log: [u8; LOG]) -> Day {
     d
 }
 
-fn verdict(name: &[u8], ok: bool) {
-    print::text(name);
-    if ok {
-        print::text(b": same\n");
-    } else {
-        print::text(b": DIFFERENT\n");
-    }
-}
-
-fn compare(a: Day, b: Day, paper: [u8; LOG]) {
+fn compare(a: Day, b: Day, paper: [u8; BYTES]) {
     let x = a.replies;
     let y = b.replies;
     let left = a.bench;
@@ -116,11 +107,8 @@ fn compare(a: Day, b: Day, paper: [u8; LOG]) {
 }
 
 pub fn cases() {
-    let log =
-        *b"\x01\0\0\0\x01\x01\0\0\x01\x02\0\0\x04\x02\0\0\x0d\0\0\0\x0d\x01\0\0\x0d\x02\0\0\x08\x01\0\0\x08\0\0\0\x06\x02\0\0\x0d\x02\0\0\x0d\x02\xf0\xff";
-    let paper =
-        *b"\0\0\0\0\0\x01\0\0\0\x02\0\0\x02\0\0\0\x02\x01\0\0\x02\x02\0\0\0\x02\0\0\0\x01\xf5\xff\0\0\xf0\xff\x03\x02\0\0\x01\x02\0\0\0\x02\xf0\xff";
+    let log = day::log();
     let a = run(b"day by methods: ", true, log);
     let b = run(b"day by dispatch: ", false, log);
-    compare(a, b, paper);
+    compare(a, b, day::replies());
 }
