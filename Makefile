@@ -56,6 +56,7 @@ sample:
 # the proved code, linked with the second implementation
 harness:
 	rt staticlib exports
+	rt staticlib exports_feed
 	cd tests/compare && cargo build --release --offline --quiet
 
 compare: harness

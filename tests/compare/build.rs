@@ -1,25 +1,34 @@
-//! Links the keeper: `target/staticlib/libexports.a` of the repository, or
-//! the archive that EXPORTS_ARCHIVE names.
+//! Links the keeper: `libexports.a` and `libexports_feed.a` in `target/staticlib`
+//! of the repository, or in the folder that KEEPER_ARCHIVES names.
 
 use std::env;
 use std::fs;
-use std::path::PathBuf;
+use std::path::{Path, PathBuf};
 
 fn main() {
     let package = PathBuf::from(env::var_os("CARGO_MANIFEST_DIR").expect("cargo sets it"));
     let out = PathBuf::from(env::var_os("OUT_DIR").expect("cargo sets it"));
-    let archive = env::var_os("EXPORTS_ARCHIVE").map_or_else(
-        || package.join("../../target/staticlib/libexports.a"),
+    let folder = env::var_os("KEEPER_ARCHIVES").map_or_else(
+        || package.join("../../target/staticlib"),
         PathBuf::from,
     );
-    println!("cargo:rerun-if-env-changed=EXPORTS_ARCHIVE");
+    println!("cargo:rerun-if-env-changed=KEEPER_ARCHIVES");
+    println!("cargo:rustc-link-search=native={}", out.display());
+    for name in ["exports", "exports_feed"] {
+        link(name, &folder, &out);
+    }
+}
+
+/// Links a copy of the archive, so that cargo links anew when it has changed.
+fn link(name: &str, folder: &Path, out: &Path) {
+    let file = format!("lib{name}.a");
+    let archive = folder.join(&file);
     println!("cargo:rerun-if-changed={}", archive.display());
-    if let Err(error) = fs::copy(&archive, out.join("libexports.a")) {
+    if let Err(error) = fs::copy(&archive, out.join(&file)) {
         panic!(
-            "{}: {error}; `rt staticlib exports` makes it",
+            "{}: {error}; `rt staticlib {name}` makes it",
             archive.display()
         );
     }
-    println!("cargo:rustc-link-search=native={}", out.display());
-    println!("cargo:rustc-link-lib=static=exports");
+    println!("cargo:rustc-link-lib=static={name}");
 }

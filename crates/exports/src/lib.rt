@@ -16,7 +16,6 @@ ghost use Rattle.table.specs.Answers.{answerOf};
 ghost use Rattle.bench.specs.Translate.{stateOf};
 ghost use Rattle.exports.specs.Columns.{coded, filled, scalarsOf, columnOf};
 
-mod feed;
 mod step;
 
 use bench::Bench;

@@ -27,9 +27,11 @@ rules-ascend {w} h =
       rest = λ i l g. h .consumerRows .unused i l;
     }
 
-pub bit-one : (b : Bool) → bit b ≤ 1
-bit-one true = omega arith
-bit-one false = omega arith
+-- ---- the rows of one block after others
+pub count-joined : (f : ℕ → Bool) (a b : ℕ) → count f (a + b) ≡ count f a + count (λ i. f (a + i)) b
+unfolding count
+count-joined f a zero = let e : a + 0 ≡ a = omega arith in rw e (omega arith)
+count-joined f a (suc b) = let e : a + suc b ≡ suc (a + b) = omega arith in let h = count-joined f a b in rw e (omega arith)
 
 -- ---- an order of several steps
 module _ {consumer : List ℕ} {m : ℕ} (a : Ascending consumer m) where

@@ -39,7 +39,7 @@ column-zero f zero h = refl
 column-zero f (suc n) h = ap₂ (λ (x : ℕ) (l : List ℕ). x ∷ l) (h 0) (column-zero (λ k. f (suc k)) n (λ k. h (suc k)))
 
 -- ---- counts
-bit-low : (b : Bool) → bit b ≤ 1
+pub bit-low : (b : Bool) → bit b ≤ 1
 bit-low true = omega arith
 bit-low false = omega arith
 

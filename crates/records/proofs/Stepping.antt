@@ -9,7 +9,7 @@ use denote.Enum.Declared.{tagOf}
 use lib.Dec.{ltb, leb, eqb}
 use borrow.Author.Tests.{leb-true, leb-false, not-false}
 use Rattle.model.specs.Limits.{EINPROGRESS, minus}
-use Rattle.model.specs.Tests.{if_then_else_, _and_, _or_}
+use Rattle.model.specs.Tests.{if_then_else_, _and_}
 use Rattle.model.specs.State.{State, Callback}
 use Rattle.model.specs.Records.{Rec, Done, finished, refused, allowed}
 use Rattle.model.specs.Steps.{result, request, recordStep}
@@ -24,7 +24,7 @@ use Rattle.requests.specs.declared.Callback.the-variants.{None, Open}
 use Rattle.requests.proofs.Callback.{the-type}
 use Rattle.requests.specs.Answers.{numberOf, callbackOf, openedAs}
 use Rattle.requests.proofs.Turning.{ready}
-use Rattle.records.specs.Records.{fault, resultStep, sleepingOf, settingOf, wakingOf, settlingOf, poweringOf, Fit}
+use Rattle.records.specs.Records.{fault, resultStep, sleepingOf, settlingOf, poweringOf, Fit}
 
 -- ---- which callback is open
 pub none-there : (c : open-callback.Callback) → OneOf (0 ∷ []) (tagOf the-type c) → c ≡ None
@@ -90,7 +90,7 @@ target-known {s} h ne = go (h .callback)
 -- ---- the requests that may change a status, by families
 module _ (s : State) (p v : ℕ) where
   pub power-kinds : (kind : ℕ) → 1 ≤ kind → kind < 13 → (kind ≡ 1 → ⊥) → (kind ≡ 2 → ⊥) → (kind ≡ 3 → ⊥) → (kind ≡ 5 → ⊥) → (kind ≡ 12 → ⊥) → request s kind p v ≡ poweringOf kind s p
-  unfolding poweringOf wakingOf settlingOf settingOf sleepingOf if_then_else_ _or_
+  unfolding poweringOf settlingOf sleepingOf if_then_else_
   power-kinds =
       by-kind (λ kind d. (kind ≡ 1 → ⊥) → (kind ≡ 2 → ⊥) → (kind ≡ 3 → ⊥) → (kind ≡ 5 → ⊥) → (kind ≡ 12 → ⊥) → d ≡ poweringOf kind s p)
       (record {

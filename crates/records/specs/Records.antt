@@ -7,7 +7,7 @@ use lib.ListN.{getD}
 use lib.Dec.{leb, eqb}
 use lib.IntN.{pos, negsuc}
 use Rattle.model.specs.Limits.{MAXHOLDS, MAXDEPTH, EINPROGRESS, minus}
-use Rattle.model.specs.Tests.{if_then_else_, _and_, _or_}
+use Rattle.model.specs.Tests.{if_then_else_, _and_}
 use Rattle.model.specs.Table.{Wiring}
 use Rattle.model.specs.State.{State, Devices, Callback, Carry, SUSPENDING}
 use Rattle.model.specs.Records.{Rec, Done, Bounds, refused, allowed}
@@ -67,17 +67,17 @@ sleepingOf kind s p =
     else if eqb kind 7 then idle s p
     else suspend s p
 
-unfoldable pub settingOf : ℕ → State → ℕ → Done
-settingOf kind s p = if eqb kind 10 then setActive s p else setSuspended s p
-
-unfoldable pub wakingOf : ℕ → State → ℕ → Done
-wakingOf kind s p = if eqb kind 4 then getWake s p else wake s p
-
 unfoldable pub settlingOf : ℕ → State → ℕ → Done
-settlingOf kind s p = if leb 10 kind then settingOf kind s p else sleepingOf kind s p
+settlingOf kind s p =
+    if eqb kind 10 then setActive s p
+    else if eqb kind 11 then setSuspended s p
+    else sleepingOf kind s p
 
 unfoldable pub poweringOf : ℕ → State → ℕ → Done
-poweringOf kind s p = if eqb kind 4 or eqb kind 9 then wakingOf kind s p else settlingOf kind s p
+poweringOf kind s p =
+    if eqb kind 4 then getWake s p
+    else if eqb kind 9 then wake s p
+    else settlingOf kind s p
 
 -- ---- promises
 -- what a request on device p asks of the columns; every sound state with no callback open has it (`fit` in proofs/Stepping.antt)

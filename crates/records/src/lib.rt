@@ -6,9 +6,9 @@ ghost use Rattle.model.specs.Table.{wired};
 ghost use Rattle.model.specs.Records.{signed, allowed};
 ghost use Rattle.model.specs.Steps.{result, request};
 ghost use Rattle.model.specs.Lent.{none, devicesFrom};
-ghost use Rattle.requests.specs.Answers.{finishedOut, callbackOf};
+ghost use Rattle.requests.specs.Answers.{callbackOf};
 ghost use Rattle.requests.specs.Promises.{Leads, Turns};
-ghost use Rattle.records.specs.Records.{recOf, refusedOut, busyOut, fault, resultStep, sleepingOf, settingOf, wakingOf, settlingOf, poweringOf, Fit, openAt, Targets, Moves, Stepped};
+ghost use Rattle.records.specs.Records.{recOf, refusedOut, busyOut, fault, resultStep, sleepingOf, settlingOf, poweringOf, Fit, openAt, Targets, Moves, Stepped};
 use model::LINKS;
 use model::ROWS;
 use requests::Callback;
@@ -280,111 +280,6 @@ fn sleeping_request<'a>(
     }
 }
 
-// Kinds 4 and 9.
-fn waking_request<'a>(
-    parent: &'a [u8; ROWS],
-    ignore: &'a [u8; ROWS],
-    consumer: &'a [u8; LINKS],
-    supplier: &'a [u8; LINKS],
-    flags: &'a [u8; LINKS],
-    n: u8,
-    m: u16,
-    status: &mut [u8; ROWS],
-    holds: &mut [u16; ROWS],
-    depth: &'a [u8; ROWS],
-    error: &'a [u16; ROWS],
-    children: &mut [u8; ROWS],
-    linked: &mut [u16; ROWS],
-    kind: u8,
-    p: u8,
-) -> Out
-    ensures { λ o. ⌜ (Fit (wired n m (now (parent .entry)) (now (ignore .entry)) (now (consumer .entry)) (now (supplier .entry)) (now (flags .entry))) (devicesFrom (now (status .entry)) (now (holds .entry)) (now (depth .entry)) (now (error .entry)) (now (children .entry)) (now (linked .entry))) p → Leads (λ s. wakingOf kind s p) none (wired n m (now (parent .entry)) (now (ignore .entry)) (now (consumer .entry)) (now (supplier .entry)) (now (flags .entry))) (devicesFrom (now (status .entry)) (now (holds .entry)) (now (depth .entry)) (now (error .entry)) (now (children .entry)) (now (linked .entry))) (devicesFrom (now (status .exit)) (now (holds .exit)) (now (depth .entry)) (now (error .entry)) (now (children .exit)) (now (linked .exit))) o) ⌝ }
-{
-    if kind == 4 {
-        return waking::get_wake(
-            parent,
-            ignore,
-            consumer,
-            supplier,
-            flags,
-            n,
-            m,
-            status,
-            holds,
-            depth,
-            error,
-            children,
-            linked,
-            p,
-        );
-    }
-    waking::wake(
-        parent,
-        ignore,
-        consumer,
-        supplier,
-        flags,
-        n,
-        m,
-        status,
-        depth,
-        error,
-        children,
-        linked,
-        p,
-    )
-}
-
-// Kinds 10 and 11: the code.
-fn setting_request<'a>(
-    parent: &'a [u8; ROWS],
-    ignore: &'a [u8; ROWS],
-    consumer: &'a [u8; LINKS],
-    supplier: &'a [u8; LINKS],
-    flags: &'a [u8; LINKS],
-    m: u16,
-    status: &mut [u8; ROWS],
-    depth: &'a [u8; ROWS],
-    error: &mut [u16; ROWS],
-    children: &mut [u8; ROWS],
-    linked: &mut [u16; ROWS],
-    kind: u8,
-    p: u8,
-) -> u16
-    ensures { λ r. ⌜ ((n : ℕ) (holds : List ℕ) → p < n → Turns (λ s. settingOf kind s p) none (wired n m (now (parent .entry)) (now (ignore .entry)) (now (consumer .entry)) (now (supplier .entry)) (now (flags .entry))) (devicesFrom (now (status .entry)) holds (now (depth .entry)) (now (error .entry)) (now (children .entry)) (now (linked .entry))) (devicesFrom (now (status .exit)) holds (now (depth .entry)) (now (error .exit)) (now (children .exit)) (now (linked .exit))) (finishedOut p r)) ⌝ }
-{
-    if kind == 10 {
-        return setting::set_active(
-            parent,
-            ignore,
-            consumer,
-            supplier,
-            flags,
-            m,
-            status,
-            depth,
-            error,
-            children,
-            linked,
-            p,
-        );
-    }
-    setting::set_suspended(
-        parent,
-        ignore,
-        consumer,
-        supplier,
-        flags,
-        m,
-        status,
-        depth,
-        error,
-        children,
-        linked,
-        p,
-    )
-}
-
 // Kinds 6, 7, 8, 10 and 11.
 fn settling_request<'a>(
     parent: &'a [u8; ROWS],
@@ -404,8 +299,42 @@ fn settling_request<'a>(
 ) -> Out
     ensures { λ o. ⌜ ((n : ℕ) → Fit (wired n m (now (parent .entry)) (now (ignore .entry)) (now (consumer .entry)) (now (supplier .entry)) (now (flags .entry))) (devicesFrom (now (status .entry)) (now (holds .entry)) (now (depth .entry)) (now (error .entry)) (now (children .entry)) (now (linked .entry))) p → Leads (λ s. settlingOf kind s p) none (wired n m (now (parent .entry)) (now (ignore .entry)) (now (consumer .entry)) (now (supplier .entry)) (now (flags .entry))) (devicesFrom (now (status .entry)) (now (holds .entry)) (now (depth .entry)) (now (error .entry)) (now (children .entry)) (now (linked .entry))) (devicesFrom (now (status .exit)) (now (holds .exit)) (now (depth .entry)) (now (error .exit)) (now (children .exit)) (now (linked .exit))) o) ⌝ }
 {
-    if 10 <= kind {
-        let code = setting_request(
+    match kind {
+        10 => requests::finished(
+            p,
+            setting::set_active(
+                parent,
+                ignore,
+                consumer,
+                supplier,
+                flags,
+                m,
+                status,
+                depth,
+                error,
+                children,
+                linked,
+                p,
+            ),
+        ),
+        11 => requests::finished(
+            p,
+            setting::set_suspended(
+                parent,
+                ignore,
+                consumer,
+                supplier,
+                flags,
+                m,
+                status,
+                depth,
+                error,
+                children,
+                linked,
+                p,
+            ),
+        ),
+        _ => sleeping_request(
             parent,
             ignore,
             consumer,
@@ -413,31 +342,15 @@ fn settling_request<'a>(
             flags,
             m,
             status,
+            holds,
             depth,
             error,
             children,
             linked,
             kind,
             p,
-        );
-        return requests::finished(p, code);
+        ),
     }
-    sleeping_request(
-        parent,
-        ignore,
-        consumer,
-        supplier,
-        flags,
-        m,
-        status,
-        holds,
-        depth,
-        error,
-        children,
-        linked,
-        kind,
-        p,
-    )
 }
 
 // Kinds 4 and 6 to 11: those that may change a status.
@@ -461,7 +374,7 @@ fn power_request<'a>(
     ensures { λ o. ⌜ (Fit (wired n m (now (parent .entry)) (now (ignore .entry)) (now (consumer .entry)) (now (supplier .entry)) (now (flags .entry))) (devicesFrom (now (status .entry)) (now (holds .entry)) (now (depth .entry)) (now (error .entry)) (now (children .entry)) (now (linked .entry))) p → Leads (λ s. poweringOf kind s p) none (wired n m (now (parent .entry)) (now (ignore .entry)) (now (consumer .entry)) (now (supplier .entry)) (now (flags .entry))) (devicesFrom (now (status .entry)) (now (holds .entry)) (now (depth .entry)) (now (error .entry)) (now (children .entry)) (now (linked .entry))) (devicesFrom (now (status .exit)) (now (holds .exit)) (now (depth .entry)) (now (error .exit)) (now (children .exit)) (now (linked .exit))) o) ⌝ }
 {
     match kind {
-        4 | 9 => waking_request(
+        4 => waking::get_wake(
             parent,
             ignore,
             consumer,
@@ -475,7 +388,21 @@ fn power_request<'a>(
             error,
             children,
             linked,
-            kind,
+            p,
+        ),
+        9 => waking::wake(
+            parent,
+            ignore,
+            consumer,
+            supplier,
+            flags,
+            n,
+            m,
+            status,
+            depth,
+            error,
+            children,
+            linked,
             p,
         ),
         _ => settling_request(

@@ -1,9 +1,9 @@
--- `exports::feed::code` meets its contract. Assumes nothing.
+-- `exports_feed::code` meets its contract. Assumes nothing.
 use mathlib.Core.Path.{sym}
 use native.Mathlib.Nat.{zero-add}
 use borrow.Author.Needs.{needs}
-use Rattle.exports.proofs.feed.code.Statement.{statement}
-use Rattle.exports.proofs.feed.code.Tie as tie
+use Rattle.exports_feed.proofs.code.Statement.{statement}
+use Rattle.exports_feed.proofs.code.Tie as tie
 
 returns : tie.Need-returns
 returns c = rw (c .enum-told .given .1)

@@ -1,8 +1,8 @@
--- `exports::feed::keeper_feed` meets its contract. Assumes nothing.
-use Rattle.exports.proofs.Packing.{packs-fed}
+-- `exports_feed::keeper_feed` meets its contract. Assumes nothing.
+use Rattle.exports_feed.proofs.Packing.{packs-fed}
 use borrow.Author.Needs.{needs}
-use Rattle.exports.proofs.feed.keeper_feed.Statement.{statement}
-use Rattle.exports.proofs.feed.keeper_feed.Tie as tie
+use Rattle.exports_feed.proofs.keeper_feed.Statement.{statement}
+use Rattle.exports_feed.proofs.keeper_feed.Tie as tie
 
 returns : tie.Need-returns
 returns c = packs-fed (c .before .before .before .before .before .before .before .before .before .before .before .before .before .feed .result) (c .before .before .before .before .before .before .before .before .before .before .before .before .before .feed .ensures) (c .code .ensures)

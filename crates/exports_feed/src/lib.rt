@@ -1,9 +1,10 @@
-// A piece of log on the columns of a bench, for the tests to call.
+// A piece of log on the columns of a bench, for the tests to call. It is a library of its own: with one caller of the dispatch in it,
+// the compiler makes the loop and the dispatch one piece of code, as in `replaying`.
 ghost use mathlib.Core.Path.{_≡_};
 ghost use Rattle.model.specs.Table.{wired};
 ghost use Rattle.model.specs.Lent.{lent, devicesFrom};
 ghost use Rattle.feeding.specs.Pieces.{numberOf, repliesOf};
-ghost use Rattle.exports.specs.Packed.{fedCode, callbackIn, carryIn, FedIn};
+ghost use Rattle.exports_feed.specs.Fed.{fedCode, callbackIn, carryIn, FedIn};
 use bench::Bench;
 use feeding::Answer;
 use model::LINKS;
