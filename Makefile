@@ -13,8 +13,7 @@ FEEDS ?= 100000
 # one core for the times, where that can be asked for
 PIN := $(shell command -v taskset > /dev/null && echo taskset -c 0)
 
-.PHONY: run replay day test listed second sample harness compare replayed bench
-.NOTPARALLEL:
+.PHONY: run replay day test listed second sample harness compare states feeds replayed bench
 
 DAY := examples/day
 
@@ -23,8 +22,7 @@ run: replay
 	@echo "the log of $(DAY), replayed in pieces of 5 bytes:"
 	@host/target/release/replay $(DAY)/table.bin $(DAY)/log.bin target/day/replies.bin 5
 	@echo "each record of the log, and the reply to it:"
-	@od -An -v -tx1 -w4 $(DAY)/log.bin > target/day/log.txt
-	@od -An -v -tx1 -w4 target/day/replies.bin | paste -d '>' target/day/log.txt - | sed 's/>/  -> /'
+	@examples/show $(DAY)/log.bin target/day/replies.bin
 	@cmp target/day/replies.bin $(DAY)/replies.bin && echo "the replies are those of document 01"
 
 # the program, with its exit status
@@ -39,7 +37,11 @@ day:
 	target/bin/rows
 	target/bin/pieces
 
-test: listed second sample compare replayed
+# what the checks run is proved and built first; then they run two at a time
+test: listed second
+	$(MAKE) harness
+	$(MAKE) replay
+	$(MAKE) -j2 --output-sync=target feeds sample states replayed
 	rt ci
 
 # every folder of crates/ stands in crates.txt
@@ -59,14 +61,23 @@ harness:
 	rt staticlib exports_feed
 	cd tests/compare && cargo build --release --offline --quiet
 
-compare: harness
+compare:
+	$(MAKE) harness
+	$(MAKE) states
+	$(MAKE) feeds
+
+# tables, benches and single records
+states:
 	tests/compare/target/release/compare tables $(SEED) $(TABLES)
 	tests/compare/target/release/compare benches $(SEED) $(BENCHES)
 	tests/compare/target/release/compare records $(SEED) $(RECORDS)
+
+# logs in pieces
+feeds:
 	tests/compare/target/release/compare feed $(SEED) $(FEEDS)
 
 # the program on files of every sort
-replayed: replay
+replayed:
 	tests/replay/check
 	tests/replay/check host/target/release/replay statuses
 

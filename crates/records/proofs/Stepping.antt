@@ -27,10 +27,6 @@ use Rattle.requests.proofs.Turning.{ready}
 use Rattle.records.specs.Records.{fault, resultStep, sleepingOf, settlingOf, poweringOf, Fit}
 
 -- ---- which callback is open
-pub none-there : (c : open-callback.Callback) → OneOf (0 ∷ []) (tagOf the-type c) → c ≡ None
-none-there None h = refl
-none-there (Open k a t) h = absurd (omega arith)
-
 pub numbered : (k : CallbackKind) → numberOf k ≡ 0 → ⊥
 numbered Suspend e = omega arith
 numbered Resume e = omega arith
