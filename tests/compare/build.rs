@@ -8,10 +8,8 @@ use std::path::{Path, PathBuf};
 fn main() {
     let package = PathBuf::from(env::var_os("CARGO_MANIFEST_DIR").expect("cargo sets it"));
     let out = PathBuf::from(env::var_os("OUT_DIR").expect("cargo sets it"));
-    let folder = env::var_os("KEEPER_ARCHIVES").map_or_else(
-        || package.join("../../target/staticlib"),
-        PathBuf::from,
-    );
+    let folder = env::var_os("KEEPER_ARCHIVES")
+        .map_or_else(|| package.join("../../target/staticlib"), PathBuf::from);
     println!("cargo:rerun-if-env-changed=KEEPER_ARCHIVES");
     println!("cargo:rustc-link-search=native={}", out.display());
     for name in ["exports", "exports_feed"] {

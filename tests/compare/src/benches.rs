@@ -1,5 +1,6 @@
 //! Random benches: what the keeper's algorithms and the second implementation say of them.
 
+use crate::deepest;
 use crate::keeper;
 use second::generate::damage::{changed, damaged};
 use second::generate::hosts::{any_host, Session};
@@ -10,7 +11,7 @@ use second::Bench;
 
 /// Compares so many random benches: how many devices were asked about, or the first difference.
 pub fn compare(seed: u64, count: u64) -> Result<String, String> {
-    deepest().map_err(|what| format!("the deepest wake set: {what}"))?;
+    deepest::compare()?;
     let mut random = Random::new(seed);
     let (mut devices, mut members, mut sound) = (0, 0, [0, 0]);
     for number in 0..count {
@@ -30,28 +31,6 @@ pub fn compare(seed: u64, count: u64) -> Result<String, String> {
         "benches: {count} compared, {devices} devices, {members} members of wake sets, sound {}, not sound {}",
         sound[1], sound[0]
     ))
-}
-
-/// The deepest wake set: 64 devices in one chain of parents, with 128 runtime
-/// links down the chain. It is found within a stack of 1 MB.
-fn deepest() -> Result<(), String> {
-    let mut table = b"TWB\x01\x00\x40\x80\xff\x00".to_vec();
-    table.extend((1..64).flat_map(|p: u8| [p - 1, 0]));
-    let steps = |p: u8| {
-        (1..=if p < 6 { 3 } else { 2 })
-            .rev()
-            .filter(move |&step| step <= p)
-    };
-    table.extend((0..64).flat_map(|p: u8| steps(p).flat_map(move |step| [p, p - step, 1])));
-    let bench = second::load(&table).map_err(|refusal| format!("refused {}", refusal.number))?;
-    let asked = std::thread::Builder::new()
-        .stack_size(1 << 20)
-        .spawn(move || same(&bench, 63));
-    let members = asked.map_err(|error| error.to_string())?.join();
-    match members.map_err(|_| "the stack is too small".to_string())?? {
-        64 => Ok(()),
-        members => Err(format!("{members} members, not 64")),
-    }
 }
 
 /// The bench of a random table.
@@ -96,7 +75,7 @@ fn verdicts(random: &mut Random, bench: &Bench) -> Result<Vec<bool>, String> {
 }
 
 /// How many members the wake set of a device has, or how the two differ.
-fn same(bench: &Bench, device: u8) -> Result<u64, String> {
+pub fn same(bench: &Bench, device: u8) -> Result<u64, String> {
     let right = bench.wake_set(device.into());
     let members = listed(&keeper::wake_set(bench, device));
     let expected: Vec<usize> = right.devices().collect();

@@ -173,7 +173,7 @@ impl<'a> Pair<'a> {
 
 /// One piece to both, with a buffer of these bytes: the replies, or the number that both refuse it
 /// with; else how the two differ.
-fn same(
+pub fn same(
     keeper: &mut Columns,
     second: &mut Bench,
     piece: &[u8],

@@ -10,6 +10,7 @@
 
 mod answers;
 mod benches;
+mod deepest;
 mod feed;
 mod keeper;
 mod logs;
