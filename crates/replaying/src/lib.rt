@@ -45,6 +45,10 @@ pub fn run() -> u8 {
         files::say(b"usage: replay TABLE LOG REPLIES [PIECE], PIECE from 1 to 4096\n");
         return WRONG;
     };
+    if arguments::overwrites() {
+        files::say(b"replay: REPLIES has the name of a file to read\n");
+        return WRONG;
+    }
     replay(size)
 }
 
