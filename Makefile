@@ -13,7 +13,7 @@ FEEDS ?= 100000
 # one core for the times, where that can be asked for
 PIN := $(shell command -v taskset > /dev/null && echo taskset -c 0)
 
-.PHONY: run replay day test listed second sample harness compare states feeds replayed bench
+.PHONY: run replay day test built listed second sample harness compare states feeds replayed bench
 
 DAY := examples/day
 
@@ -25,9 +25,9 @@ run: replay
 	@examples/show $(DAY)/log.bin target/day/replies.bin
 	@cmp target/day/replies.bin $(DAY)/replies.bin && echo "the replies are those of document 01"
 
-# the program, with its exit status
+# the program, with its exit status. The crates below it are proved two at a time, which `rt staticlib` would not do.
 replay:
-	rt check replay
+	rt check keeper report
 	rt staticlib replaying
 	cd host && cargo build --release --offline --quiet
 
@@ -37,12 +37,15 @@ day:
 	target/bin/rows
 	target/bin/pieces
 
-# what the checks run is proved and built first; then they run two at a time
-test: listed second
-	$(MAKE) harness
-	$(MAKE) replay
+# What the checks run is proved and built first. The checks run two at a time. The toolchain's verdict proves everything anew.
+test: listed
+	$(MAKE) -j2 --output-sync=target built second
 	$(MAKE) -j2 --output-sync=target feeds sample states replayed
 	rt ci
+
+built:
+	$(MAKE) harness
+	$(MAKE) replay
 
 # every folder of crates/ stands in crates.txt
 listed:
@@ -57,7 +60,9 @@ sample:
 
 # the proved code, linked with the second implementation
 harness:
+	rt check keeper report
 	rt staticlib exports
+	rt staticlib exports_load
 	rt staticlib exports_feed
 	cd tests/compare && cargo build --release --offline --quiet
 
@@ -76,9 +81,8 @@ states:
 feeds:
 	tests/compare/target/release/compare feed $(SEED) $(FEEDS)
 
-# the program on files of every sort
+# the program on files of every sort; the toolchain's verdict runs the same library as target/bin/replay
 replayed:
-	tests/replay/check
 	tests/replay/check host/target/release/replay statuses
 
 bench: harness

@@ -1,5 +1,5 @@
-//! Links the keeper: `libexports.a` and `libexports_feed.a` in `target/staticlib`
-//! of the repository, or in the folder that KEEPER_ARCHIVES names.
+//! Links the keeper: the archives of `exports`, `exports_load` and `exports_feed` in
+//! `target/staticlib` of the repository, or in the folder that KEEPER_ARCHIVES names.
 
 use std::env;
 use std::fs;
@@ -12,7 +12,7 @@ fn main() {
         .map_or_else(|| package.join("../../target/staticlib"), PathBuf::from);
     println!("cargo:rerun-if-env-changed=KEEPER_ARCHIVES");
     println!("cargo:rustc-link-search=native={}", out.display());
-    for name in ["exports", "exports_feed"] {
+    for name in ["exports", "exports_load", "exports_feed"] {
         link(name, &folder, &out);
     }
 }

@@ -1,3 +1,1 @@
--- The laws of the loops over rows.
-pub mod Rows
 pub mod Packing

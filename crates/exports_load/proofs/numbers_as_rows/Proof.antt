@@ -1,10 +1,10 @@
--- `exports::numbers_as_rows` meets its contract. The invariant: the rows passed hold what the list holds. Assumes nothing.
+-- `exports_load::numbers_as_rows` meets its contract. The invariant: the rows passed hold what the list holds. Assumes nothing.
 use Prim.Native.Nat.{_-_}
 use borrow.Author.Needs.{needs}
 use Rattle.model.specs.Limits.{ROWS}
-use Rattle.exports.proofs.Rows.{Passed, passed-none, passed-one, passed-all}
-use Rattle.exports.proofs.numbers_as_rows.Statement.{statement}
-use Rattle.exports.proofs.numbers_as_rows.Tie as tie
+use Rattle.exports_load.proofs.Rows.{Passed, passed-none, passed-one, passed-all}
+use Rattle.exports_load.proofs.numbers_as_rows.Statement.{statement}
+use Rattle.exports_load.proofs.numbers_as_rows.Tie as tie
 
 abbrev Inv-loop : tie.InvT-loop
 Inv-loop list rows₀ k₀ rows k = Passed list k rows

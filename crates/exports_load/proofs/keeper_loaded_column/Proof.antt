@@ -1,10 +1,10 @@
--- `exports::keeper_loaded_column` meets its contract, by those of `load` and `column_of`. Assumes nothing.
+-- `exports_load::keeper_loaded_column` meets its contract, by those of `load` and `column_of`. Assumes nothing.
 use mathlib.Core.Path.{ap, _∙_}
 use borrow.Author.Needs.{needs}
 use Rattle.model.specs.State.{Loaded}
-use Rattle.exports.specs.Columns.{columnOf}
-use Rattle.exports.proofs.keeper_loaded_column.Statement.{statement}
-use Rattle.exports.proofs.keeper_loaded_column.Tie as tie
+use Rattle.exports_load.specs.Columns.{columnOf}
+use Rattle.exports_load.proofs.keeper_loaded_column.Statement.{statement}
+use Rattle.exports_load.proofs.keeper_loaded_column.Tie as tie
 
 pub keeper-loaded-column-spec : {M : Type 1} → statement M
 keeper-loaded-column-spec =

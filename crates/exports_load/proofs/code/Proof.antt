@@ -1,7 +1,7 @@
--- `exports::code` meets its contract: each variant's number, and 256 times the index where it has one. Assumes nothing.
+-- `exports_load::code` meets its contract: each variant's number, and 256 times the index where it has one. Assumes nothing.
 use borrow.Author.Needs.{needs}
-use Rattle.exports.proofs.code.Statement.{statement}
-use Rattle.exports.proofs.code.Tie as tie
+use Rattle.exports_load.proofs.code.Statement.{statement}
+use Rattle.exports_load.proofs.code.Tie as tie
 
 pub code-spec : {M : Type 1} → statement M
 code-spec =

@@ -1,10 +1,10 @@
--- `exports::keeper_load` meets its contract, by those of `load` and `code`. Assumes nothing.
+-- `exports_load::keeper_load` meets its contract, by those of `load` and `code`. Assumes nothing.
 use mathlib.Core.Path.{ap, _∙_}
 use borrow.Author.Needs.{needs}
 use Rattle.model.specs.State.{Loaded}
-use Rattle.exports.specs.Columns.{coded}
-use Rattle.exports.proofs.keeper_load.Statement.{statement}
-use Rattle.exports.proofs.keeper_load.Tie as tie
+use Rattle.exports_load.specs.Columns.{coded}
+use Rattle.exports_load.proofs.keeper_load.Statement.{statement}
+use Rattle.exports_load.proofs.keeper_load.Tie as tie
 
 pub keeper-load-spec : {M : Type 1} → statement M
 keeper-load-spec =

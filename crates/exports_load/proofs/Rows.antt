@@ -7,7 +7,7 @@ use lib.ListN.{getD, set, replicate}
 use Rattle.model.specs.Limits.{ROWS}
 use Rattle.model.specs.Tests.{column}
 use Rattle.table.proofs.Columns.{Filled, fill-none, fill-one, fill-all}
-use Rattle.exports.specs.Columns.{filled}
+use Rattle.exports_load.specs.Columns.{filled}
 
 -- the first k rows hold what the list holds
 pub record Passed (list : List ℕ) (k : ℕ) (rows : List ℕ) : Type 0 where

@@ -1,4 +1,4 @@
--- `exports::column_of` meets its contract: each arm gives the column that the list has at its number, and past the last it has none.
+-- `exports_load::column_of` meets its contract: each arm gives the column that the list has at its number, and past the last it has none.
 -- Assumes nothing.
 use mathlib.Core.Path.{_≡_, sym, ap, _∙_}
 use mathlib.Core.List.{[]}
@@ -8,10 +8,10 @@ use lib.ListN.{List·getD-eq-default}
 use borrow.Author.Needs.{needs}
 use Rattle.model.specs.Limits.{ROWS}
 use Rattle.bench.specs.Translate.{stateOf}
-use Rattle.exports.specs.Columns.{filled, columnOf, columnsOf}
-use Rattle.exports.proofs.Rows.{filled-nothing}
-use Rattle.exports.proofs.column_of.Statement.{statement}
-use Rattle.exports.proofs.column_of.Tie as tie
+use Rattle.exports_load.specs.Columns.{filled, columnOf, columnsOf}
+use Rattle.exports_load.proofs.Rows.{filled-nothing}
+use Rattle.exports_load.proofs.column_of.Statement.{statement}
+use Rattle.exports_load.proofs.column_of.Tie as tie
 
 -- a number from k on that is none of the next six
 past-six : {T : Type 0} {n : ℕ} (k : ℕ) → k ≤ n → (((((T × (n ≡ k → ⊥)) × (n ≡ k + 1 → ⊥)) × (n ≡ k + 2 → ⊥)) × (n ≡ k + 3 → ⊥)) × (n ≡ k + 4 → ⊥)) × (n ≡ k + 5 → ⊥) → k + 6 ≤ n

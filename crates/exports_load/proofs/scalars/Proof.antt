@@ -1,8 +1,8 @@
--- `exports::scalars` meets its contract: the list is the state's, since `wide` leaves a byte as it is. Assumes nothing.
+-- `exports_load::scalars` meets its contract: the list is the state's, since `wide` leaves a byte as it is. Assumes nothing.
 use borrow.Author.Needs.{needs}
-use Rattle.exports.specs.Columns.{scalarsOf}
-use Rattle.exports.proofs.scalars.Statement.{statement}
-use Rattle.exports.proofs.scalars.Tie as tie
+use Rattle.exports_load.specs.Columns.{scalarsOf}
+use Rattle.exports_load.proofs.scalars.Statement.{statement}
+use Rattle.exports_load.proofs.scalars.Tie as tie
 
 returns : tie.Need-returns
 unfolding scalarsOf

@@ -1,9 +1,9 @@
--- `exports::number_at` meets its contract. Assumes nothing.
+-- `exports_load::number_at` meets its contract. Assumes nothing.
 use mathlib.Core.Path.{sym}
 use lib.ListN.{List·getD-eq-default}
 use borrow.Author.Needs.{needs}
-use Rattle.exports.proofs.number_at.Statement.{statement}
-use Rattle.exports.proofs.number_at.Tie as tie
+use Rattle.exports_load.proofs.number_at.Statement.{statement}
+use Rattle.exports_load.proofs.number_at.Tie as tie
 
 returns-2 : tie.Need-returns-2
 returns-2 c = sym (List·getD-eq-default (c .before .args .list .now) 0 (c .if1 .left))
