@@ -16,7 +16,6 @@ use requests::CallbackKind;
 use requests::Out;
 use requests::Reply;
 use requests::holding;
-use requests::setting;
 use requests::sleeping;
 
 // A record: its value is the 16-bit number as it stands.

@@ -1,17 +1,16 @@
 -- What a transition promises of the columns that it is lent, whatever else the state holds. Assumes nothing.
 use mathlib.Core.Path.{_≡_}
-use mathlib.Core.Bool.{Bool, not}
+use mathlib.Core.Bool.{Bool}
 use mathlib.Core.List.{List}
-use Prim.Native.Nat.{ℕ, _≤_, _%_}
+use Prim.Native.Nat.{ℕ, _≤_}
 use lib.ListN.{getD, length}
-use lib.Dec.{ltb, eqb}
+use lib.Dec.{eqb}
 use Rattle.model.specs.Limits.{LINKS, ROWS, NONE, MAXHOLDS, MAXDEPTH, EAGAIN, EBUSY, minus}
-use Rattle.model.specs.Tests.{if_then_else_, _and_, _or_}
-use Rattle.model.specs.Table.{Wiring, wired}
+use Rattle.model.specs.Tests.{if_then_else_, _or_}
+use Rattle.model.specs.Table.{Wiring}
 use Rattle.model.specs.State.{State, Devices, Callback, Carry, SUSPENDED, ACTIVE}
 use Rattle.model.specs.Records.{Done, finished}
-use Rattle.model.specs.Requests.{ignoreChildren}
-use Rattle.model.specs.Lent.{devicesFrom, lent, withHoldsColumn, withDepthColumn}
+use Rattle.model.specs.Lent.{lent, withHoldsColumn, withDepthColumn}
 use Rattle.links.specs.Ascending.{Ascending}
 use Rattle.counts.specs.Shifts.{InLine}
 use Rattle.requests.specs.declared.Out.{Out}
@@ -25,10 +24,6 @@ pub record OnDepth (request : State → ℕ → Done) (entry exit : List ℕ) (p
 -- where only the user holds change
 pub record OnHolds (request : State → ℕ → Done) (entry exit : List ℕ) (p code : ℕ) : Type 0 where
   pub is : (s : State) → getD entry p 0 ≤ MAXHOLDS → request (withHoldsColumn s entry) p ≡ finished (withHoldsColumn s exit) p code
-
--- where only the flag for ignored children changes
-pub record OnIgnore (status children : List ℕ) (p v : ℕ) (entry exit : List ℕ) (code : ℕ) : Type 0 where
-  pub is : (n m : ℕ) (parent consumer supplier flags holds depth error linked : List ℕ) (c : Callback) (y : Carry) → ignoreChildren (lent (wired n m parent entry consumer supplier flags) (devicesFrom status holds depth error children linked) c y) p v ≡ finished (lent (wired n m parent exit consumer supplier flags) (devicesFrom status holds depth error children linked) c y) p code
 
 -- ---- several columns
 -- f, with the callback c open, is answered o and leads from the devices before to those after
@@ -59,11 +54,3 @@ passing v = eqb v (minus EAGAIN) or eqb v (minus EBUSY)
 -- the status that a suspend callback's result leads to
 unfoldable pub settled : ℕ → ℕ
 settled v = if eqb v 0 then SUSPENDED else ACTIVE
-
--- link i is a runtime link of p, and its supplier is not active
-unfoldable pub linkDown : (consumer supplier flags status : List ℕ) → ℕ → ℕ → Bool
-linkDown consumer supplier flags status p i = eqb (getD consumer i 0) p and eqb (getD flags i 0 % 2) 1 and not (eqb (getD status (getD supplier i 0) 0) ACTIVE)
-
--- p is not active and has powered children
-unfoldable pub inactiveWithChildren : List ℕ → List ℕ → ℕ → Bool
-inactiveWithChildren status children p = not (eqb (getD status p 0) ACTIVE) and ltb 0 (getD children p 0)

@@ -1,11 +1,10 @@
-// What each request and each callback result does, but for those of a wake: one function for each transition, over columns that the
-// caller lends.
+// What kinds 1, 2, 3 and 5 to 8 and the results of the idle and suspend callbacks do: one function for each transition, over columns
+// that the caller lends.
 ghost use mathlib.Core.Path.{_≡_};
 ghost use Rattle.counts.specs.Shifts.{Row};
 ghost use Rattle.requests.specs.Answers.{numberOf, callbackOf, openedAs, finishedOut, askedOut};
 
 pub mod holding;
-pub mod setting;
 pub mod sleeping;
 
 // Error codes as they stand in a reply: 65,536 less Linux's number.

@@ -1,4 +1,4 @@
-// Kinds 10, 11 and 12: status and flag set from outside.
+// Kinds 10, 11 and 12: status and flag set from outside, over columns that the caller lends.
 ghost use mathlib.Core.Path.{_≡_};
 ghost use mathlib.Core.List.{List, []};
 ghost use Prim.Native.Nat.{ℕ, _<_, _≤_};
@@ -7,16 +7,17 @@ ghost use Rattle.model.specs.Table.{wired};
 ghost use Rattle.model.specs.Requests.{running, parentDown, supplierDown, setActive, needed, setSuspended};
 ghost use Rattle.model.specs.Lent.{none, devicesFrom, ofBars, ofUse, ofParents, ofLinks};
 ghost use Rattle.links.specs.Ascending.{Ascending};
 ghost use Rattle.requests.specs.Answers.{finishedOut};
-ghost use Rattle.requests.specs.Promises.{OnIgnore, Turns, linkDown, inactiveWithChildren};
-use crate::ACTIVE;
-use crate::EAGAIN;
-use crate::EBUSY;
-use crate::SUSPENDED;
-use crate::row;
+ghost use Rattle.requests.specs.Promises.{Turns};
+ghost use Rattle.setting.specs.Sets.{OnIgnore, linkDown, inactiveWithChildren};
 use model::LINKS;
 use model::NONE;
 use model::ROWS;
+use requests::ACTIVE;
+use requests::EAGAIN;
+use requests::EBUSY;
+use requests::SUSPENDED;
+use requests::row;
 
 // Disable depth 0 and no error: the status of device p cannot be set.
 fn running<'a>(depth: &'a [u8; ROWS], error: &'a [u16; ROWS], p: u8) -> bool

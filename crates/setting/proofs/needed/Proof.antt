@@ -1,11 +1,12 @@
--- `requests::setting::needed` meets its contract. Assumes nothing.
+-- `setting::needed` meets its contract. Assumes nothing.
 use borrow.Author.Tests.{lt-ltb, le-ltb}
 use Rattle.model.specs.Tests.{_and_}
 use Rattle.model.specs.Requests.{needed}
-use Rattle.requests.proofs.Loops.{not-above, or-last, or-rest}
+use Rattle.requests.proofs.Loops.{not-above}
+use Rattle.setting.proofs.Loops.{or-last, or-rest}
 use borrow.Author.Needs.{needs}
-use Rattle.requests.proofs.setting.needed.Statement.{statement}
-use Rattle.requests.proofs.setting.needed.Tie as tie
+use Rattle.setting.proofs.needed.Statement.{statement}
+use Rattle.setting.proofs.needed.Tie as tie
 
 returns : tie.Need-returns
 unfolding needed

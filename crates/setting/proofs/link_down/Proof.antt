@@ -1,12 +1,12 @@
--- `requests::setting::link_down` meets its contract. Assumes nothing.
+-- `setting::link_down` meets its contract. Assumes nothing.
 use native.Mathlib.Omega.{arith}
 use Rattle.model.specs.Limits.{LINKS}
 use borrow.Author.Tests.{eq-eqb, ne-eqb}
 use Rattle.model.specs.Tests.{_and_}
-use Rattle.requests.specs.Promises.{linkDown}
+use Rattle.setting.specs.Sets.{linkDown}
 use borrow.Author.Needs.{needs}
-use Rattle.requests.proofs.setting.link_down.Statement.{statement}
-use Rattle.requests.proofs.setting.link_down.Tie as tie
+use Rattle.setting.proofs.link_down.Statement.{statement}
+use Rattle.setting.proofs.link_down.Tie as tie
 
 element-copy-out-if1 : tie.Need-element-copy-out-if1
 unfolding LINKS

@@ -1,10 +1,10 @@
--- `requests::setting::inactive_with_children` meets its contract. Assumes nothing.
+-- `setting::inactive_with_children` meets its contract. Assumes nothing.
 use borrow.Author.Tests.{eq-eqb, ne-eqb}
 use Rattle.model.specs.Tests.{_and_}
-use Rattle.requests.specs.Promises.{inactiveWithChildren}
+use Rattle.setting.specs.Sets.{inactiveWithChildren}
 use borrow.Author.Needs.{needs}
-use Rattle.requests.proofs.setting.inactive_with_children.Statement.{statement}
-use Rattle.requests.proofs.setting.inactive_with_children.Tie as tie
+use Rattle.setting.proofs.inactive_with_children.Statement.{statement}
+use Rattle.setting.proofs.inactive_with_children.Tie as tie
 
 returns : tie.Need-returns
 unfolding inactiveWithChildren _and_

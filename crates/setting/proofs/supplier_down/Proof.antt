@@ -1,4 +1,4 @@
--- `requests::setting::supplier_down` meets its contract. The invariant: no link passed has its supplier down. Assumes nothing.
+-- `setting::supplier_down` meets its contract. The invariant: no link passed has its supplier down. Assumes nothing.
 use mathlib.Core.Path.{_≡_, sym, _∙_}
 use mathlib.Core.Bool.{false}
 use Prim.Native.Nat.{ℕ, _-_, _<_, _≤_}
@@ -11,11 +11,11 @@ use Rattle.model.specs.Requests.{supplierDown}
 use Rattle.model.proofs.Counting.{count-low}
 use Rattle.links.specs.Ascending.{Ascending}
 use Rattle.links.proofs.Order.{none-before, none-after}
-use Rattle.requests.specs.Promises.{linkDown}
-use Rattle.requests.proofs.Loops.{any-met, any-none, any-neither, not-down}
+use Rattle.setting.specs.Sets.{linkDown}
+use Rattle.setting.proofs.Loops.{any-met, any-none, any-neither, not-down}
 use borrow.Author.Needs.{needs}
-use Rattle.requests.proofs.setting.supplier_down.Statement.{statement}
-use Rattle.requests.proofs.setting.supplier_down.Tie as tie
+use Rattle.setting.proofs.supplier_down.Statement.{statement}
+use Rattle.setting.proofs.supplier_down.Tie as tie
 
 abbrev Inv-loop : tie.InvT-loop
 Inv-loop consumer supplier flags m status p many i₀ i =

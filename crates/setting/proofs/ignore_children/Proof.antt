@@ -1,12 +1,12 @@
--- `requests::setting::ignore_children` meets its contract. Assumes nothing.
+-- `setting::ignore_children` meets its contract. Assumes nothing.
 use mathlib.Core.Path.{_≡_, sym, _∙_}
 use native.Mathlib.Omega.{arith}
 use Rattle.model.specs.Tests.{if_then_else_, _and_}
 use Rattle.model.specs.Requests.{ignoreChildren}
-use Rattle.requests.specs.Promises.{inactiveWithChildren}
+use Rattle.setting.specs.Sets.{inactiveWithChildren}
 use borrow.Author.Needs.{needs}
-use Rattle.requests.proofs.setting.ignore_children.Statement.{statement}
-use Rattle.requests.proofs.setting.ignore_children.Tie as tie
+use Rattle.setting.proofs.ignore_children.Statement.{statement}
+use Rattle.setting.proofs.ignore_children.Tie as tie
 
 returns : tie.Need-returns
 unfolding ignoreChildren if_then_else_ _and_

@@ -1,10 +1,10 @@
--- `requests::setting::running` meets its contract. Assumes nothing.
+-- `setting::running` meets its contract. Assumes nothing.
 use borrow.Author.Tests.{eq-eqb, ne-eqb}
 use Rattle.model.specs.Tests.{_and_}
 use Rattle.model.specs.Requests.{running}
 use borrow.Author.Needs.{needs}
-use Rattle.requests.proofs.setting.running.Statement.{statement}
-use Rattle.requests.proofs.setting.running.Tie as tie
+use Rattle.setting.proofs.running.Statement.{statement}
+use Rattle.setting.proofs.running.Tie as tie
 
 returns : tie.Need-returns
 unfolding running _and_

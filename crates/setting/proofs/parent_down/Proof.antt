@@ -1,10 +1,10 @@
--- `requests::setting::parent_down` meets its contract. Assumes nothing.
+-- `setting::parent_down` meets its contract. Assumes nothing.
 use borrow.Author.Tests.{eq-eqb, ne-eqb}
 use Rattle.model.specs.Tests.{_and_}
 use Rattle.model.specs.Requests.{parentDown}
 use borrow.Author.Needs.{needs}
-use Rattle.requests.proofs.setting.parent_down.Statement.{statement}
-use Rattle.requests.proofs.setting.parent_down.Tie as tie
+use Rattle.setting.proofs.parent_down.Statement.{statement}
+use Rattle.setting.proofs.parent_down.Tie as tie
 
 returns : tie.Need-returns
 unfolding parentDown _and_

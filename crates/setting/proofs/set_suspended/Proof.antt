@@ -1,11 +1,11 @@
--- `requests::setting::set_suspended` meets its contract. Assumes nothing.
+-- `setting::set_suspended` meets its contract. Assumes nothing.
 use Rattle.model.specs.Tests.{if_then_else_}
 use Rattle.model.specs.Requests.{setSuspended}
-use Rattle.requests.proofs.Reading.{running-reads, needed-reads}
+use Rattle.setting.proofs.Reading.{running-reads, needed-reads}
 use Rattle.requests.proofs.Turning.{after}
 use borrow.Author.Needs.{needs}
-use Rattle.requests.proofs.setting.set_suspended.Statement.{statement}
-use Rattle.requests.proofs.setting.set_suspended.Tie as tie
+use Rattle.setting.proofs.set_suspended.Statement.{statement}
+use Rattle.setting.proofs.set_suspended.Tie as tie
 
 returns : tie.Need-returns
 unfolding setSuspended if_then_else_

@@ -1,11 +1,11 @@
--- `requests::setting::set_active` meets its contract. Assumes nothing.
+-- `setting::set_active` meets its contract. Assumes nothing.
 use Rattle.model.specs.Tests.{if_then_else_, _or_}
 use Rattle.model.specs.Requests.{setActive}
-use Rattle.requests.proofs.Reading.{running-reads, parent-reads, supplier-reads}
+use Rattle.setting.proofs.Reading.{running-reads, parent-reads, supplier-reads}
 use Rattle.requests.proofs.Turning.{after}
 use borrow.Author.Needs.{needs}
-use Rattle.requests.proofs.setting.set_active.Statement.{statement}
-use Rattle.requests.proofs.setting.set_active.Tie as tie
+use Rattle.setting.proofs.set_active.Statement.{statement}
+use Rattle.setting.proofs.set_active.Tie as tie
 
 returns : tie.Need-returns
 unfolding setActive if_then_else_
