@@ -1,3 +1,3 @@
 pub mod Translate
-pub mod Answers
+pub mod Verdict
 pub mod Methods

@@ -1,6 +1,8 @@
-// The keeper's bench: what it holds, a method for each request and result, and the public questions.
+// The keeper's bench: what it holds, the soundness test, and a method for each request and result.
+ghost use Rattle.bench.specs.Translate.{stateOf};
+ghost use Rattle.bench.specs.Verdict.{Verdict};
+
 pub mod methods;
-pub mod questions;
 
 use model::LINKS;
 use model::ROWS;
@@ -37,4 +39,32 @@ pub struct Bench {
     // the carried bytes, and how many they are
     pub carried: [u8; 3],
     pub used: u8,
+}
+
+impl Bench {
+    // The soundness test.
+    pub fn sound(self) -> bool
+        ensures { λ r. ⌜ Verdict (stateOf self) r ⌝ }
+    {
+        soundness::sound(
+            self.n,
+            self.m,
+            &self.parent,
+            &self.ignore,
+            &self.consumer,
+            &self.supplier,
+            &self.flags,
+            &self.status,
+            &self.holds,
+            &self.depth,
+            &self.error,
+            &self.children,
+            &self.linked,
+            self.callback,
+            self.asked,
+            self.target,
+            &self.carried,
+            self.used,
+        )
+    }
 }

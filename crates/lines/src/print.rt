@@ -4,10 +4,10 @@ ghost use mathlib.Core.List.{[], _∷_};
 ghost use Prim.Native.Nat.{_<_, _/_, _%_};
 use bench::Bench;
 use bench::methods::Outcome;
-use bench::questions::MemberAnswer;
-use bench::questions::NumberAnswer;
-use bench::questions::Status;
-use bench::questions::StatusAnswer;
+use questions::MemberAnswer;
+use questions::NumberAnswer;
+use questions::Status;
+use questions::StatusAnswer;
 use records::Record;
 
 pub fn text(s: &[u8]) {
@@ -173,11 +173,11 @@ fn ignores(flag: u8) {
 // The counts of device p, as the questions tell them.
 fn counts(b: Bench, p: u8) {
     text(b" usage ");
-    number_answer(b.usage_count(p));
+    number_answer(questions::usage_count(b, p));
     text(b" children ");
-    number_answer(b.child_count(p));
+    number_answer(questions::child_count(b, p));
     text(b" holds ");
-    number_answer(b.user_holds(p));
+    number_answer(questions::user_holds(b, p));
 }
 
 // The state of device p, and the open callback.
@@ -186,7 +186,7 @@ pub fn state(b: Bench, p: u8) {
     text(b"device ");
     decimal(p as u64);
     text(b" ");
-    status_answer(b.status_of(p));
+    status_answer(questions::status_of(b, p));
     counts(b, p);
     text(b" depth ");
     decimal(wide(b.depth[row]));

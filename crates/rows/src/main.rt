@@ -1,8 +1,8 @@
 // What the keeper answers to single records: the day at the bench, every row of the table of kinds with every code, and what is turned away.
+mod asked;
 mod kinds;
 mod log;
 mod most;
-mod questions;
 mod results;
 mod slips;
 
@@ -10,7 +10,7 @@ fn main() {
     log::cases();
     kinds::cases();
     results::cases();
-    questions::cases();
+    asked::cases();
     slips::cases();
     most::cases();
 }
