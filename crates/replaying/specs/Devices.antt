@@ -2,8 +2,9 @@
 use Prim.Native.Nat.{ℕ}
 use lib.ListN.{getD}
 use Rattle.bench.specs.declared.Bench.{Bench}
-use Rattle.report.specs.Lines.{lineOf, deviceText}
-use Rattle.report.specs.declared.line.Line.{Line}
+use Rattle.text.specs.Line.{lineOf}
+use Rattle.text.specs.declared.line.Line.{Line}
+use Rattle.report.specs.Lines.{deviceText}
 
 -- row p of the columns
 abbrev pub deviceLine : Bench → ℕ → Line

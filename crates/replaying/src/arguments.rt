@@ -1,6 +1,6 @@
 // The program's arguments.
-use report::size::MOST;
-use report::size::Size;
+use text::size::MOST;
+use text::size::Size;
 
 // The size of the pieces: argument 4, or 4,096 where there are three arguments.
 pub fn size() -> Size {
@@ -16,7 +16,7 @@ pub fn size() -> Size {
     if os::errno() != 0 {
         return Size::Wrong;
     }
-    report::size::read(&text[..length])
+    text::size::read(&text[..length])
 }
 
 // Whether argument 3, the file to write, has the name of argument i, a file to read. Names that cannot be read differ: what is wrong

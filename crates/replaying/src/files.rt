@@ -2,7 +2,7 @@
 ghost use Prim.Native.Nat.{_≤_};
 ghost use lib.ListN.{length};
 ghost use Rattle.io.specs.Counts.{Counts};
-use report::size::MOST;
+use text::size::MOST;
 
 // What was read: so many bytes, or a failure.
 pub struct Read {

@@ -4,7 +4,7 @@ mod files;
 mod printed;
 mod session;
 
-use report::size::Size;
+use text::size::Size;
 use session::FAILED;
 
 // The status of wrong arguments, and of a refused table.

@@ -3,7 +3,7 @@ ghost use mathlib.Core.Path.{_≡_};
 ghost use Rattle.replaying.specs.Devices.{deviceLine};
 use crate::files;
 use bench::Bench;
-use report::line::Line;
+use text::line::Line;
 
 // Writes a line and answers whether it could.
 fn put(fd: i32, line: Line) -> bool {

@@ -7,7 +7,7 @@ use crate::printed;
 use bench::Bench;
 use feeding::Answer;
 use files::Read;
-use report::size::MOST;
+use text::size::MOST;
 
 const DONE: u8 = 0;
 

@@ -1,4 +1,2 @@
-pub mod Adding
-pub mod Digits
-pub mod Reading
+pub mod Picked
 pub mod Examples

@@ -1,20 +1,10 @@
 -- The lines that are printed. Assumes nothing.
 use mathlib.Core.List.{List, _++_}
-use Prim.Native.Nat.{ℕ, _+_, _-_}
-use lib.Dec.{eqb, leb}
-use lib.ListN.{length, take, drop, replicate}
+use Prim.Native.Nat.{ℕ, _+_}
+use lib.Dec.{eqb}
 use Rattle.model.specs.Tests.{if_then_else_}
 use Rattle.model.specs.Table.{TableAnswer}
-use Rattle.report.specs.Text.{ascii, decimal}
-use Rattle.report.specs.declared.line.Line.{Line}
-
--- a line of that text: its bytes, and zeros up to 256
-unfoldable pub lineOf : List ℕ → Line
-lineOf t = record { bytes = t ++ replicate (256 - length t) 0; used = length t }
-
--- a line with a word after its text; as it was where the word does not fit
-unfoldable pub added : Line → List ℕ → Line
-added l w = if leb (l .used + length w) 256 then record { bytes = take (l .used) (l .bytes) ++ w ++ drop (l .used + length w) (l .bytes); used = l .used + length w } else l
+use Rattle.text.specs.Text.{ascii, decimal}
 
 -- table refused NUMBER INDEX
 unfoldable pub refusedText : TableAnswer → List ℕ

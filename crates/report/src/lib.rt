@@ -1,18 +1,15 @@
-// What the program `replay` prints, and how it reads its argument PIECE.
+// What the program `replay` prints.
 ghost use mathlib.Core.Path.{_≡_};
 ghost use Prim.Native.Nat.{_+_};
 ghost use Rattle.table.specs.Answers.{answerOf};
-ghost use Rattle.report.specs.Lines.{lineOf, added, refusedText, repliesText, carriedText, callbackText, statusText, signText, deviceText, stoppedText};
+ghost use Rattle.text.specs.Line.{lineOf, added};
+ghost use Rattle.report.specs.Lines.{refusedText, repliesText, carriedText, callbackText, statusText, signText, deviceText, stoppedText};
 use table::Answer;
-
-pub mod line;
-pub mod size;
-
-use line::Line;
-use line::field;
-use line::number;
-use line::start;
-use line::word;
+use text::line::Line;
+use text::line::field;
+use text::line::number;
+use text::line::start;
+use text::line::word;
 
 fn wide8(x: u8) -> u64
     ensures { λ r. ⌜ r ≡ x ⌝ }

@@ -3,9 +3,9 @@ use native.Mathlib.Omega.{arith}
 use borrow.Author.Needs.{needs}
 use borrow.Author.Tests.{ne-eqb}
 use Rattle.model.specs.Tests.{if_then_else_}
-use Rattle.report.specs.Text.{ascii}
+use Rattle.text.specs.Text.{ascii}
 use Rattle.report.specs.Lines.{callbackText}
-use Rattle.report.proofs.Adding.{holds-start, holds-word, holds-field}
+use Rattle.text.proofs.Adding.{holds-start, holds-word, holds-field}
 use Rattle.report.proofs.callback.Statement.{statement}
 use Rattle.report.proofs.callback.Tie as tie
 

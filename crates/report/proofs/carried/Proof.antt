@@ -1,9 +1,9 @@
 -- `report::carried` meets its contract. Assumes nothing.
 use native.Mathlib.Omega.{arith}
 use borrow.Author.Needs.{needs}
-use Rattle.report.specs.Text.{ascii}
+use Rattle.text.specs.Text.{ascii}
 use Rattle.report.specs.Lines.{carriedText}
-use Rattle.report.proofs.Adding.{holds-start, holds-word, holds-field}
+use Rattle.text.proofs.Adding.{holds-start, holds-word, holds-field}
 use Rattle.report.proofs.carried.Statement.{statement}
 use Rattle.report.proofs.carried.Tie as tie
 

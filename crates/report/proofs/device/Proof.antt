@@ -2,9 +2,10 @@
 use Prim.Native.Nat.{_+_}
 use native.Mathlib.Omega.{arith}
 use borrow.Author.Needs.{needs}
-use Rattle.report.specs.Text.{ascii}
+use Rattle.text.specs.Text.{ascii}
 use Rattle.report.specs.Lines.{deviceText, statusText, signText}
-use Rattle.report.proofs.Adding.{holds-start, holds-word, holds-within, holds-number, holds-field, status-short, sign-short}
+use Rattle.text.proofs.Adding.{holds-start, holds-word, holds-within, holds-number, holds-field}
+use Rattle.report.proofs.Picked.{status-short, sign-short}
 use Rattle.report.proofs.device.Statement.{statement}
 use Rattle.report.proofs.device.Tie as tie
 

@@ -3,9 +3,9 @@ use mathlib.Core.Path.{_∙_}
 use native.Mathlib.Omega.{arith}
 use borrow.Author.Needs.{needs}
 use Rattle.table.specs.Answers.{answerOf}
-use Rattle.report.specs.Text.{ascii}
+use Rattle.text.specs.Text.{ascii}
 use Rattle.report.specs.Lines.{refusedText}
-use Rattle.report.proofs.Adding.{holds-start, holds-word, holds-field}
+use Rattle.text.proofs.Adding.{holds-start, holds-word, holds-field}
 use Rattle.report.proofs.refused.Statement.{statement}
 use Rattle.report.proofs.refused.Tie as tie
 

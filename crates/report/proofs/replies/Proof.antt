@@ -2,9 +2,9 @@
 use mathlib.Core.Path.{refl}
 use native.Mathlib.Omega.{arith}
 use borrow.Author.Needs.{needs}
-use Rattle.report.specs.Text.{ascii}
+use Rattle.text.specs.Text.{ascii}
 use Rattle.report.specs.Lines.{repliesText}
-use Rattle.report.proofs.Adding.{holds-start, holds-word, holds-field}
+use Rattle.text.proofs.Adding.{holds-start, holds-word, holds-field}
 use Rattle.report.proofs.replies.Statement.{statement}
 use Rattle.report.proofs.replies.Tie as tie
 

@@ -2,7 +2,7 @@
 use borrow.Author.Needs.{needs}
 use borrow.Author.Tests.{ne-eqb}
 use Rattle.model.specs.Tests.{if_then_else_}
-use Rattle.report.specs.Text.{ascii}
+use Rattle.text.specs.Text.{ascii}
 use Rattle.report.specs.Lines.{signText}
 use Rattle.report.proofs.sign.Statement.{statement}
 use Rattle.report.proofs.sign.Tie as tie

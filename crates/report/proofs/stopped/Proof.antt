@@ -1,9 +1,9 @@
 -- `report::stopped` meets its contract. Assumes nothing.
 use native.Mathlib.Omega.{arith}
 use borrow.Author.Needs.{needs}
-use Rattle.report.specs.Text.{ascii}
+use Rattle.text.specs.Text.{ascii}
 use Rattle.report.specs.Lines.{stoppedText}
-use Rattle.report.proofs.Adding.{holds-start, holds-word, holds-field}
+use Rattle.text.proofs.Adding.{holds-start, holds-word, holds-field}
 use Rattle.report.proofs.stopped.Statement.{statement}
 use Rattle.report.proofs.stopped.Tie as tie
 

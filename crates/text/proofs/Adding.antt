@@ -1,18 +1,16 @@
 -- A line that grows word by word. Assumes nothing.
 use mathlib.Core.Path.{_≡_, refl, ap, _∙_}
-use mathlib.Core.Bool.{Bool, true, false}
 use mathlib.Core.List.{List, [], _++_}
 use Prim.Native.Nat.{ℕ, _+_, _-_, _≤_}
 use native.Mathlib.Omega.{arith}
-use lib.Dec.{eqb}
 use lib.ListN.{length, drop, replicate, length-append, length-replicate, replicate-append-replicate}
 use lib.Seq.{take-append-seam, drop-append-add, drop-at}
 use borrow.Author.Tests.{le-leb}
 use Rattle.model.specs.Tests.{if_then_else_}
-use Rattle.report.specs.Text.{ascii, decimal}
-use Rattle.report.specs.Lines.{lineOf, added, statusText, signText}
-use Rattle.report.specs.declared.line.Line.{Line}
-use Rattle.report.proofs.Digits.{decimal-length}
+use Rattle.text.specs.Text.{decimal}
+use Rattle.text.specs.Line.{lineOf, added}
+use Rattle.text.specs.declared.line.Line.{Line}
+use Rattle.text.proofs.Digits.{decimal-length}
 
 -- ---- one word
 abbrev zeros : ℕ → List ℕ
@@ -52,17 +50,3 @@ holds-number x g q e h = holds-within (decimal x) 20 (decimal-length x) g (rw q 
 
 pub holds-field : {l r : Line} {t : List ℕ} {k y : ℕ} (w : List ℕ) (x : ℕ) → Holds l t k → y ≡ x → r ≡ added (added l w) (decimal y) → k + length w + 20 ≤ 256 → Holds r (t ++ w ++ decimal x) (k + length w + 20)
 holds-field w x g q e h = holds-number x (holds-word w g refl (omega arith)) q e h
-
--- ---- words that are picked
-within-if : {n : ℕ} (b : Bool) (x y : List ℕ) → length x ≤ n → length y ≤ n → length (if b then x else y) ≤ n
-unfolding if_then_else_
-within-if true x y h g = h
-within-if false x y h g = g
-
-pub status-short : (status : ℕ) → length (statusText status) ≤ 10
-unfolding ascii statusText
-status-short status = within-if (eqb status 0) _ _ (omega arith) (within-if (eqb status 1) _ _ (omega arith) (within-if (eqb status 2) _ _ (omega arith) (within-if (eqb status 3) _ _ (omega arith) (omega arith))))
-
-pub sign-short : (magnitude : ℕ) → length (signText magnitude) ≤ 1
-unfolding ascii signText
-sign-short magnitude = within-if (eqb magnitude 0) _ _ (omega arith) (omega arith)

@@ -10,9 +10,10 @@ use lib.ListN.{length, length-append}
 use borrow.Author.Tests.{lt-ltb, le-ltb}
 use Rattle.io.specs.Digits.{glyph, digits, Fewest}
 use Rattle.model.specs.Tests.{if_then_else_}
-use Rattle.report.specs.Text.{single, digitsUpTo, decimal}
+use Rattle.text.specs.Text.{single, digitsUpTo, decimal}
 
-short-if : (k : ℕ) (b : Bool) (x y : List ℕ) → length x ≤ k → length y ≤ k → length (if b then x else y) ≤ k
+-- of two short words the one that is picked is short
+pub short-if : (k : ℕ) (b : Bool) (x y : List ℕ) → length x ≤ k → length y ≤ k → length (if b then x else y) ≤ k
 unfolding if_then_else_
 short-if k true x y h g = h
 short-if k false x y h g = g

@@ -1,9 +1,9 @@
--- `report::line::number` meets its contract. Assumes nothing.
+-- `text::line::number` meets its contract. Assumes nothing.
 use mathlib.Core.Path.{_∙_}
 use Prim.Native.Nat.{_^_, _<_}
-use Rattle.report.proofs.Digits.{decimal-digits}
-use Rattle.report.proofs.line.number.Statement.{statement}
-use Rattle.report.proofs.line.number.Tie as tie
+use Rattle.text.proofs.Digits.{decimal-digits}
+use Rattle.text.proofs.line.number.Statement.{statement}
+use Rattle.text.proofs.line.number.Tie as tie
 use borrow.Author.Needs.{needs}
 
 returns : tie.Need-returns

@@ -1,6 +1,6 @@
 // The size of a piece, as an argument gives it.
 ghost use mathlib.Core.Path.{_≡_};
-ghost use Rattle.report.specs.Sizes.{digitOf, sizeOf};
+ghost use Rattle.text.specs.Sizes.{digitOf, sizeOf};
 
 // The greatest size of a piece.
 pub const MOST: usize = 4096;

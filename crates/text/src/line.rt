@@ -1,8 +1,8 @@
 // A line of text as it grows.
 ghost use mathlib.Core.Path.{_≡_};
 ghost use mathlib.Core.List.{[]};
-ghost use Rattle.report.specs.Text.{decimal};
-ghost use Rattle.report.specs.Lines.{lineOf, added};
+ghost use Rattle.text.specs.Text.{decimal};
+ghost use Rattle.text.specs.Line.{lineOf, added};
 
 // The most bytes of a line.
 pub const ROOM: usize = 256;

@@ -1,6 +1,6 @@
--- `report::line::field` meets its contract. Assumes nothing.
-use Rattle.report.proofs.line.field.Statement.{statement}
-use Rattle.report.proofs.line.field.Tie as tie
+-- `text::line::field` meets its contract. Assumes nothing.
+use Rattle.text.proofs.line.field.Statement.{statement}
+use Rattle.text.proofs.line.field.Tie as tie
 use mathlib.Core.Path.{_∙_}
 use borrow.Author.Needs.{needs}
 

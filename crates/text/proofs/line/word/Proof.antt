@@ -1,4 +1,4 @@
--- `report::line::word` meets its contract. The invariant: the bytes passed are copied. Assumes nothing.
+-- `text::line::word` meets its contract. The invariant: the bytes passed are copied. Assumes nothing.
 use mathlib.Core.Path.{_≡_}
 use Prim.Native.Nat.{_+_, _-_, _≤_, _<_}
 use native.Mathlib.Numerals.{add-one}
@@ -9,9 +9,9 @@ use denote.Ref.{now}
 use borrow.Author.Needs.{needs}
 use borrow.Author.Tests.{le-leb, lt-leb}
 use Rattle.model.specs.Tests.{if_then_else_}
-use Rattle.report.specs.Lines.{added}
-use Rattle.report.proofs.line.word.Statement.{statement}
-use Rattle.report.proofs.line.word.Tie as tie
+use Rattle.text.specs.Line.{added}
+use Rattle.text.proofs.line.word.Statement.{statement}
+use Rattle.text.proofs.line.word.Tie as tie
 
 abbrev Inv-loop : tie.InvT-loop
 Inv-loop text bytes₀ used i₀ bytes i = (i ≤ length text) × (used + length text ≤ 256) × (length bytes₀ ≡ 256) × (bytes ≡ paste bytes₀ used text i)

@@ -11,9 +11,9 @@ use lib.Seq.{drop-cons}
 use borrow.Author.Tests.{le-leb, lt-leb, leb-true}
 use Rattle.model.proofs.Tests.{and-iff}
 use Rattle.model.specs.Tests.{if_then_else_, _and_}
-use Rattle.report.specs.Sizes.{isDigit, digitOf, allDigits, valueAfter, sizeAfter}
-use Rattle.report.specs.declared.size.Size.{Size}
-use Rattle.report.specs.declared.size.Size.the-variants.{Wrong, Bytes}
+use Rattle.text.specs.Sizes.{isDigit, digitOf, allDigits, valueAfter, sizeAfter}
+use Rattle.text.specs.declared.size.Size.{Size}
+use Rattle.text.specs.declared.size.Size.the-variants.{Wrong, Bytes}
 
 -- ---- what the value of a digit says of the byte
 digit-if : (b : Bool) (x : ℕ) → (if b then x else 10) ≤ 9 → (b ≡ true) × ((if b then x else 10) ≡ x)

@@ -1,10 +1,10 @@
--- `report::size::digit` meets its contract. Assumes nothing.
+-- `text::size::digit` meets its contract. Assumes nothing.
 use borrow.Author.Needs.{needs}
 use borrow.Author.Tests.{le-leb, lt-leb}
 use Rattle.model.specs.Tests.{if_then_else_, _and_}
-use Rattle.report.specs.Sizes.{isDigit, digitOf}
-use Rattle.report.proofs.size.digit.Statement.{statement}
-use Rattle.report.proofs.size.digit.Tie as tie
+use Rattle.text.specs.Sizes.{isDigit, digitOf}
+use Rattle.text.proofs.size.digit.Statement.{statement}
+use Rattle.text.proofs.size.digit.Tie as tie
 
 returns : tie.Need-returns
 unfolding digitOf isDigit _and_ if_then_else_

@@ -1,4 +1,4 @@
--- `report::size::read` meets its contract. The invariant: the bytes that are left give, after the value so far, what the whole text gives.
+-- `text::size::read` meets its contract. The invariant: the bytes that are left give, after the value so far, what the whole text gives.
 -- Assumes nothing.
 use mathlib.Core.Path.{_≡_, refl, sym, _∙_}
 use Prim.Native.Nat.{_+_, _-_, _≤_}
@@ -6,10 +6,10 @@ use native.Mathlib.Omega.{arith}
 use lib.ListN.{length, drop}
 use denote.Ref.{now}
 use borrow.Author.Needs.{needs}
-use Rattle.report.specs.Sizes.{sizeAfter, sizeOf}
-use Rattle.report.proofs.Reading.{turn-on, turn-stop, left-none, size-large, size-none, size-end}
-use Rattle.report.proofs.size.read.Statement.{statement}
-use Rattle.report.proofs.size.read.Tie as tie
+use Rattle.text.specs.Sizes.{sizeAfter, sizeOf}
+use Rattle.text.proofs.Reading.{turn-on, turn-stop, left-none, size-large, size-none, size-end}
+use Rattle.text.proofs.size.read.Statement.{statement}
+use Rattle.text.proofs.size.read.Tie as tie
 
 abbrev Inv-loop : tie.InvT-loop
 Inv-loop text value₀ i₀ value i = (i ≤ length text) × (value ≤ 4096) × (sizeAfter value (drop i text) ≡ sizeOf text)

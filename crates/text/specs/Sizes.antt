@@ -4,8 +4,8 @@ use mathlib.Core.List.{List, [], _∷_}
 use Prim.Native.Nat.{ℕ, _+_, _*_, _-_}
 use lib.Dec.{leb}
 use Rattle.model.specs.Tests.{if_then_else_, _and_}
-use Rattle.report.specs.declared.size.Size.{Size}
-use Rattle.report.specs.declared.size.Size.the-variants.{Wrong, Bytes}
+use Rattle.text.specs.declared.size.Size.{Size}
+use Rattle.text.specs.declared.size.Size.the-variants.{Wrong, Bytes}
 
 -- a byte is a decimal digit
 unfoldable pub isDigit : ℕ → Bool
