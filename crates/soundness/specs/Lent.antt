@@ -1,17 +1,14 @@
 -- Lent columns as a state, and the parts of the soundness test that have functions of their own. Assumes nothing.
-use mathlib.Core.Path.{_≡_}
 use mathlib.Core.Bool.{Bool, false, not}
 use mathlib.Core.List.{List}
-use Prim.Native.Nat.{ℕ, _+_, _-_, _%_, _<_}
-use lib.ListN.{getD}
-use lib.Dec.{ltb, leb, eqb}
-use Rattle.model.specs.Limits.{LINKS, ROWS, NONE, MAXHOLDS, MAXDEPTH, MAXERROR}
-use Rattle.model.specs.Tests.{if_then_else_, _and_, _or_, _implies_, bit, all}
-use Rattle.model.specs.Table.{Wiring, wired, parentGood, endsGood, before}
-use Rattle.model.specs.State.{State, Devices, SUSPENDING, powered, childrenOf, linkedOf}
+use Prim.Native.Nat.{ℕ}
+use lib.Dec.{leb, eqb}
+use Rattle.model.specs.Tests.{if_then_else_, _or_, _implies_}
+use Rattle.model.specs.Table.{wired}
+use Rattle.model.specs.State.{State}
 use Rattle.model.specs.WakeSet.{marked}
 use Rattle.model.specs.Requests.{barred}
-use Rattle.model.specs.SoundTest.{columnTest, sameTest, supplyTest, steadyTest, noneTest, suspendOpenTest, idleOpenTest}
+use Rattle.model.specs.SoundTest.{steadyTest, noneTest, suspendOpenTest, idleOpenTest}
 use Rattle.model.specs.Lent.{devicesFrom, lent, ofStatus, ofBars}
 
 -- ---- columns as a state
@@ -19,26 +16,9 @@ abbrev pub stateFrom : (n m : ℕ) (parent ignore consumer supplier flags status
 stateFrom n m parent ignore consumer supplier flags status holds depth error children linked kind asked target bytes used = lent (wired n m parent ignore consumer supplier flags) (devicesFrom status holds depth error children linked) (record { kind = kind; asked = asked; target = target }) (record { bytes = bytes; used = used })
 
 -- ---- one row
--- r is the row of device x
-pub record RowOf (x r : ℕ) : Type 0 where
-  pub is : r ≡ x
-  pub low : r < ROWS
-
--- row p of a column with n rows in use
-unfoldable pub rowTest : ℕ → ℕ → ℕ → ℕ → Bool
-rowTest n most p x = if ltb p n then leb x most else eqb x 0
-
 -- a carried byte is 0 where it is not used
 unfoldable pub spareTest : ℕ → ℕ → ℕ → Bool
 spareTest used i x = leb used i implies eqb x 0
-
--- what a device of a parent and a status adds to a child count
-unfoldable pub childBit : ℕ → ℕ → ℕ
-childBit parent status = bit (powered status and not (eqb parent NONE))
-
--- what a link of a consumer's status and flags adds to a link count
-unfoldable pub liveBit : ℕ → ℕ → ℕ
-liveBit status flags = bit (powered status and eqb (flags % 2) 1)
 
 -- q is p, or not in change
 unfoldable pub otherSteady : List ℕ → ℕ → ℕ → Bool
@@ -47,37 +27,6 @@ otherSteady status p q = eqb q p or steadyTest (ofStatus 0 status) q
 -- q is not marked, or not barred
 unfoldable pub clearTest : List Bool → List ℕ → List ℕ → ℕ → Bool
 clearTest marks depth error q = marked marks q implies not (barred (ofBars depth error) q)
-
--- ---- the ends of long tests
--- the entries of a table: the rules between the columns
-unfoldable pub entriesTest : Wiring → Bool
-entriesTest w =
-    all (λ p. parentGood p (getD (w .parent) p 0)) (w .n)
-    and all (λ i. endsGood (w .n) (getD (w .consumer) i 0) (getD (w .supplier) i 0)) (w .m)
-    and all (λ i. before (getD (w .consumer) i 0) (getD (w .supplier) i 0) (getD (w .consumer) (i + 1) 0) (getD (w .supplier) (i + 1) 0)) (w .m - 1)
-
--- the columns of a table, then its entries
-unfoldable pub wiringTest : Wiring → Bool
-wiringTest w =
-    columnTest ROWS (w .n) 255 (w .parent)
-    and columnTest ROWS (w .n) 1 (w .ignore)
-    and columnTest LINKS (w .m) 255 (w .consumer)
-    and columnTest LINKS (w .m) 255 (w .supplier)
-    and columnTest LINKS (w .m) 3 (w .flags)
-    and entriesTest w
-
--- the counts are the recounts, and what a device rests on is powered
-unfoldable pub countsTest : Wiring → Devices → Bool
-countsTest w d = sameTest (d .children) (childrenOf w (d .status)) and sameTest (d .linked) (linkedOf w (d .status)) and supplyTest w (d .status)
-
--- the columns of the devices' state, then the counts
-unfoldable pub devicesTest : Wiring → Devices → Bool
-devicesTest w d =
-    columnTest ROWS (w .n) SUSPENDING (d .status)
-    and columnTest ROWS (w .n) MAXHOLDS (d .holds)
-    and columnTest ROWS (w .n) MAXDEPTH (d .depth)
-    and columnTest ROWS (w .n) MAXERROR (d .error)
-    and countsTest w d
 
 -- the open callback, but for resume
 unfoldable pub ownTest : State → Bool

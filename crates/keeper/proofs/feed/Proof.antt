@@ -3,7 +3,7 @@ use mathlib.Core.Path.{_∙_, ap}
 use borrow.Author.Tests.{not-false}
 use Rattle.requests.specs.Answers.{callbackOf}
 use Rattle.records.proofs.Stepping.{opened-sound}
-use Rattle.soundness.proofs.Chains.{failed}
+use Rattle.kept.proofs.Chains.{failed}
 use Rattle.keeper.proofs.Pieces.{fed-unsound, fed-sound}
 use borrow.Author.Needs.{needs}
 use Rattle.keeper.proofs.feed.Statement.{statement}

@@ -2,7 +2,7 @@
 use borrow.Author.Tests.{not-false}
 use Rattle.model.specs.Tests.{if_then_else_}
 use Rattle.model.specs.Questions.{told}
-use Rattle.soundness.proofs.Chains.{passed, failed}
+use Rattle.kept.proofs.Chains.{passed, failed}
 use borrow.Author.Needs.{needs}
 use Rattle.questions.proofs.checked.Statement.{statement}
 use Rattle.questions.proofs.checked.Tie as tie

@@ -8,8 +8,8 @@ use borrow.Author.Tests.{le-leb, lt-leb}
 use borrow.Author.Count.{below-more}
 use Rattle.model.specs.SoundTest.{carriedTest}
 use Rattle.soundness.specs.Lent.{spareTest}
-use Rattle.soundness.proofs.Chains.{and-go, and-stop, passed, failed}
-use Rattle.soundness.proofs.Loops.{all-passed, all-failed}
+use Rattle.kept.proofs.Chains.{and-go, and-stop, passed, failed}
+use Rattle.kept.proofs.Loops.{all-passed, all-failed}
 use borrow.Author.Needs.{needs}
 use Rattle.soundness.proofs.carried_good.Statement.{statement}
 use Rattle.soundness.proofs.carried_good.Tie as tie

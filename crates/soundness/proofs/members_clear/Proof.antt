@@ -6,8 +6,8 @@ use native.Mathlib.Omega.{arith}
 use borrow.Author.Count.{below-more}
 use Rattle.model.specs.Limits.{ROWS}
 use Rattle.soundness.specs.Lent.{clearTest}
-use Rattle.soundness.proofs.Chains.{passed, failed}
-use Rattle.soundness.proofs.Loops.{all-passed, all-failed}
+use Rattle.kept.proofs.Chains.{passed, failed}
+use Rattle.kept.proofs.Loops.{all-passed, all-failed}
 use Rattle.soundness.proofs.members_clear.Statement.{statement}
 use Rattle.soundness.proofs.members_clear.Tie as tie
 

@@ -1,7 +1,7 @@
 -- `soundness::none_open` meets its contract. Assumes nothing.
 use borrow.Author.Tests.{eq-eqb, ne-eqb}
 use Rattle.model.specs.SoundTest.{steadyTest, allSteady, noneTest}
-use Rattle.soundness.proofs.Chains.{and-go, and-stop}
+use Rattle.kept.proofs.Chains.{and-go, and-stop}
 use borrow.Author.Needs.{needs}
 use Rattle.soundness.proofs.none_open.Statement.{statement}
 use Rattle.soundness.proofs.none_open.Tie as tie

@@ -7,7 +7,7 @@ use Rattle.model.specs.WakeSet.{inWake, lowest}
 use Rattle.model.specs.Requests.{barred}
 use Rattle.model.specs.SoundTest.{steadyTest, othersSteady, membersClear, resumeOpenTest}
 use Rattle.soundness.specs.Lent.{clearTest}
-use Rattle.soundness.proofs.Chains.{and-go, and-stop, passed, failed}
+use Rattle.kept.proofs.Chains.{and-go, and-stop, passed, failed}
 use borrow.Author.Needs.{needs}
 use Rattle.soundness.proofs.resume_open.Statement.{statement}
 use Rattle.soundness.proofs.resume_open.Tie as tie

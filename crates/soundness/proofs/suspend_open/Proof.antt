@@ -4,7 +4,7 @@ use borrow.Author.Tests.{lt-ltb, le-ltb, eq-eqb, ne-eqb}
 use Rattle.model.specs.Limits.{ROWS}
 use Rattle.model.specs.Requests.{suspendTest}
 use Rattle.model.specs.SoundTest.{steadyTest, othersSteady, suspendOpenTest}
-use Rattle.soundness.proofs.Chains.{and-go, and-stop, passed, failed}
+use Rattle.kept.proofs.Chains.{and-go, and-stop, passed, failed}
 use borrow.Author.Needs.{needs}
 use Rattle.soundness.proofs.suspend_open.Statement.{statement}
 use Rattle.soundness.proofs.suspend_open.Tie as tie

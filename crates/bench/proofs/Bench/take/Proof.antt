@@ -5,7 +5,7 @@ use Rattle.model.specs.Tests.{if_then_else_}
 use Rattle.model.specs.Methods.{requested}
 use Rattle.requests.specs.Answers.{callbackOf}
 use Rattle.records.proofs.Stepping.{opened-sound}
-use Rattle.soundness.proofs.Chains.{passed, failed}
+use Rattle.kept.proofs.Chains.{passed, failed}
 use Rattle.bench.proofs.Taking.{taken}
 use borrow.Author.Needs.{needs}
 use Rattle.bench.proofs.Bench.take.Statement.{statement}

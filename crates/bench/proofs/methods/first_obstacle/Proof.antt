@@ -4,7 +4,7 @@ use Rattle.model.specs.Tests.{if_then_else_}
 use Rattle.model.specs.Methods.{requested}
 use Rattle.model.proofs.Keeping.{none-open}
 use Rattle.records.proofs.Stepping.{fit}
-use Rattle.soundness.proofs.Chains.{passed, failed}
+use Rattle.kept.proofs.Chains.{passed, failed}
 use Rattle.bench.proofs.Meeting.{plain}
 use borrow.Author.Needs.{needs}
 use Rattle.bench.proofs.methods.first_obstacle.Statement.{statement}
