@@ -6,7 +6,7 @@ use native.Mathlib.Omega.{arith}
 use lib.ListN.{getD, set, replicate}
 use Rattle.model.specs.Limits.{ROWS}
 use Rattle.model.specs.Tests.{column}
-use Rattle.table.proofs.Columns.{Filled, fill-none, fill-one, fill-all}
+use Rattle.entries.proofs.Columns.{Filled, fill-none, fill-one, fill-all}
 use Rattle.exports_load.specs.Columns.{filled}
 
 -- the first k rows hold what the list holds

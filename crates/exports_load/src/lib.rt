@@ -45,7 +45,7 @@ fn bytes_as_rows(list: &[u8]) -> [u16; ROWS]
     let mut rows = [0u16; ROWS];
     let mut k: usize = 0;
     while k < ROWS {
-        rows[k] = wide(table::byte_at(list, k));
+        rows[k] = wide(entries::byte_at(list, k));
         k += 1;
     }
     rows

@@ -54,7 +54,7 @@ fn byte(carried: [u8; 3], used: usize, piece: &[u8], i: usize) -> u8
     if i < used {
         return carried[i];
     }
-    table::byte_at(piece, i - used)
+    entries::byte_at(piece, i - used)
 }
 
 // The record at byte j of the piece, read whole.

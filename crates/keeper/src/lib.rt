@@ -76,13 +76,13 @@ fn depth_column(n: u8) -> [u8; ROWS]
 fn at_rest(t: &[u8]) -> Bench
     ensures { λ r. ⌜ stateOf r ≡ loaded (wiringIn (now (t .entry))) ⌝ }
 {
-    let n = table::byte_at(t, 5);
-    let m = table::byte_at(t, 6);
-    let parent = table::device_column(t, 0);
-    let ignore = table::device_column(t, 1);
-    let consumer = table::link_column(t, 0);
-    let supplier = table::link_column(t, 1);
-    let flags = table::link_column(t, 2);
+    let n = entries::byte_at(t, 5);
+    let m = entries::byte_at(t, 6);
+    let parent = entries::device_column(t, 0);
+    let ignore = entries::device_column(t, 1);
+    let consumer = entries::link_column(t, 0);
+    let supplier = entries::link_column(t, 1);
+    let flags = entries::link_column(t, 2);
     let depth = depth_column(n);
     Bench {
         n: n,

@@ -100,10 +100,10 @@ pub fn kept(buffer: [u8; ROOM], from: usize) -> bool {
 pub fn four_at(s: &[u8], k: u16) -> [u8; 4] {
     let at = 4 * wide(k);
     [
-        table::byte_at(s, at),
-        table::byte_at(s, at + 1),
-        table::byte_at(s, at + 2),
-        table::byte_at(s, at + 3),
+        entries::byte_at(s, at),
+        entries::byte_at(s, at + 1),
+        entries::byte_at(s, at + 2),
+        entries::byte_at(s, at + 3),
     ]
 }
 

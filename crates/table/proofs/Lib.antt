@@ -1,3 +1,2 @@
--- The laws of the scan and of the columns.
+-- The laws of the scan.
 pub mod Scanning
-pub mod Columns

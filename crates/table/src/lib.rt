@@ -1,12 +1,14 @@
-// The device table ("part table" of document 01): the answer to any bytes, and the entries as columns.
+// The device table ("part table" of document 01): the answer to any bytes.
 ghost use mathlib.Core.Path.{_≡_};
-ghost use Rattle.model.specs.Limits.{LINKS, ROWS};
-ghost use Rattle.model.specs.Table.{byteAt, devicesIn, linksIn, deviceByte, linkByte, markGood, versionGood, limitsGood, lengthGood, parentGood, endsGood, before, deviceGood, linkFits, ascends, entriesAnswer, tableAnswer, cell, padded};
+ghost use Rattle.model.specs.Table.{markGood, versionGood, limitsGood, lengthGood, parentGood, endsGood, before, deviceGood, linkFits, ascends, entriesAnswer, tableAnswer};
 ghost use Rattle.table.specs.Answers.{answerOf};
+use entries::byte_at;
+use entries::device_byte;
+use entries::link_byte;
+use entries::wide;
 use model::DEVICES;
 use model::LINKS;
 use model::NONE;
-use model::ROWS;
 
 // The answer to a table: taken, or a refusal, in document 01's order. An entry's refusal has its index.
 pub enum Answer {
@@ -18,38 +20,6 @@ pub enum Answer {
     Length,
     Device(u8),
     Link(u16),
-}
-
-fn wide(x: u8) -> usize
-    ensures { λ r. ⌜ r ≡ x ⌝ }
-{
-    x as usize
-}
-
-fn wide16(x: u16) -> usize
-    ensures { λ r. ⌜ r ≡ x ⌝ }
-{
-    x as usize
-}
-
-// Byte k of a table, 0 past its end.
-pub fn byte_at(t: &[u8], k: usize) -> u8
-    ensures { λ r. ⌜ r ≡ byteAt (now (t .entry)) k ⌝ }
-{
-    if k < t.len() { t[k] } else { 0 }
-}
-
-fn device_byte(t: &[u8], field: u8, p: u8) -> u8
-    ensures { λ r. ⌜ r ≡ deviceByte (now (t .entry)) field p ⌝ }
-{
-    byte_at(t, 7 + 2 * wide(p) + wide(field))
-}
-
-fn link_byte(t: &[u8], field: u8, i: u16) -> u8
-    ensures { λ r. ⌜ r ≡ linkByte (now (t .entry)) field i ⌝ }
-{
-    let n = wide(byte_at(t, 5));
-    byte_at(t, 7 + 2 * n + 3 * wide16(i) + wide(field))
 }
 
 // A parent is none, or lower than the device's own number.
@@ -208,50 +178,4 @@ pub fn judge(t: &[u8]) -> Answer
         return Answer::Length;
     }
     scan(t)
-}
-
-// Row p of a column of device entries: the entry's byte, 0 where there is no device p.
-fn device_row(t: &[u8], field: u8, p: usize) -> u8
-    ensures { λ r. ⌜ r ≡ cell (deviceByte (now (t .entry)) field) (devicesIn (now (t .entry))) p ⌝ }
-{
-    if p < wide(byte_at(t, 5)) {
-        return device_byte(t, field, p as u8);
-    }
-    0
-}
-
-// One field of the device entries as a column: 0 the parent, 1 the flags.
-pub fn device_column(t: &[u8], field: u8) -> [u8; ROWS]
-    ensures { λ r. ⌜ r ≡ padded (deviceByte (now (t .entry)) field) (devicesIn (now (t .entry))) ROWS ⌝ }
-{
-    let mut column = [0u8; ROWS];
-    let mut p: usize = 0;
-    while p < ROWS {
-        column[p] = device_row(t, field, p);
-        p += 1;
-    }
-    column
-}
-
-// Row i of a column of link entries: the entry's byte, 0 where there is no link i.
-fn link_row(t: &[u8], field: u8, i: usize) -> u8
-    ensures { λ r. ⌜ r ≡ cell (linkByte (now (t .entry)) field) (linksIn (now (t .entry))) i ⌝ }
-{
-    if i < wide(byte_at(t, 6)) {
-        return link_byte(t, field, i as u16);
-    }
-    0
-}
-
-// One field of the link entries as a column: 0 the consumer, 1 the supplier, 2 the flags.
-pub fn link_column(t: &[u8], field: u8) -> [u8; LINKS]
-    ensures { λ r. ⌜ r ≡ padded (linkByte (now (t .entry)) field) (linksIn (now (t .entry))) LINKS ⌝ }
-{
-    let mut column = [0u8; LINKS];
-    let mut i: usize = 0;
-    while i < LINKS {
-        column[i] = link_row(t, field, i);
-        i += 1;
-    }
-    column
 }

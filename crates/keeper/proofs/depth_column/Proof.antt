@@ -4,7 +4,7 @@ use Prim.Native.Nat.{_≤_, _-_}
 use native.Mathlib.Omega.{arith}
 use Rattle.model.specs.Limits.{ROWS}
 use Rattle.model.specs.Table.{cell, padded}
-use Rattle.table.proofs.Columns.{Filled, fill-none, fill-one, fill-all}
+use Rattle.entries.proofs.Columns.{Filled, fill-none, fill-one, fill-all}
 use borrow.Author.Needs.{needs}
 use Rattle.keeper.proofs.depth_column.Statement.{statement}
 use Rattle.keeper.proofs.depth_column.Tie as tie

@@ -1,13 +1,13 @@
--- `table::device_column` meets its contract. The invariant: the rows passed are filled. Assumes nothing.
+-- `entries::device_column` meets its contract. The invariant: the rows passed are filled. Assumes nothing.
 use mathlib.Core.Path.{_≡_}
 use Prim.Native.Nat.{_≤_, _-_}
 use native.Mathlib.Omega.{arith}
 use Rattle.model.specs.Limits.{ROWS}
 use Rattle.model.specs.Table.{devicesIn, deviceByte, cell, padded}
-use Rattle.table.proofs.Columns.{Filled, fill-none, fill-one, fill-all}
+use Rattle.entries.proofs.Columns.{Filled, fill-none, fill-one, fill-all}
 use borrow.Author.Needs.{needs}
-use Rattle.table.proofs.device_column.Statement.{statement}
-use Rattle.table.proofs.device_column.Tie as tie
+use Rattle.entries.proofs.device_column.Statement.{statement}
+use Rattle.entries.proofs.device_column.Tie as tie
 
 abbrev Inv-loop : tie.InvT-loop
 Inv-loop t field column₀ p₀ column p = (p ≤ ROWS) × Filled (cell (deviceByte t field) (devicesIn t)) ROWS p column

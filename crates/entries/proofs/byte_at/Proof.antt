@@ -1,9 +1,9 @@
--- `table::byte_at` meets its contract. Assumes nothing.
+-- `entries::byte_at` meets its contract. Assumes nothing.
 use mathlib.Core.Path.{sym}
 use lib.ListN.{List·getD-eq-default}
 use borrow.Author.Needs.{needs}
-use Rattle.table.proofs.byte_at.Statement.{statement}
-use Rattle.table.proofs.byte_at.Tie as tie
+use Rattle.entries.proofs.byte_at.Statement.{statement}
+use Rattle.entries.proofs.byte_at.Tie as tie
 
 returns-2 : tie.Need-returns-2
 returns-2 c = sym (List·getD-eq-default (c .before .args .t .now) 0 (c .if1 .left))

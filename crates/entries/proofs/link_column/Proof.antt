@@ -1,13 +1,13 @@
--- `table::link_column` meets its contract. The invariant: the rows passed are filled. Assumes nothing.
+-- `entries::link_column` meets its contract. The invariant: the rows passed are filled. Assumes nothing.
 use mathlib.Core.Path.{_≡_}
 use Prim.Native.Nat.{_≤_, _-_}
 use native.Mathlib.Omega.{arith}
 use Rattle.model.specs.Limits.{LINKS}
 use Rattle.model.specs.Table.{linksIn, linkByte, cell, padded}
-use Rattle.table.proofs.Columns.{Filled, fill-none, fill-one, fill-all}
+use Rattle.entries.proofs.Columns.{Filled, fill-none, fill-one, fill-all}
 use borrow.Author.Needs.{needs}
-use Rattle.table.proofs.link_column.Statement.{statement}
-use Rattle.table.proofs.link_column.Tie as tie
+use Rattle.entries.proofs.link_column.Statement.{statement}
+use Rattle.entries.proofs.link_column.Tie as tie
 
 abbrev Inv-loop : tie.InvT-loop
 Inv-loop t field column₀ i₀ column i = (i ≤ LINKS) × Filled (cell (linkByte t field) (linksIn t)) LINKS i column

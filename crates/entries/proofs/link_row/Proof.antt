@@ -1,12 +1,12 @@
--- `table::link_row` meets its contract. Assumes nothing.
+-- `entries::link_row` meets its contract. Assumes nothing.
 use mathlib.Core.Path.{sym, _∙_}
 use native.Mathlib.Omega.{arith}
 use borrow.Author.Tests.{lt-ltb, le-ltb}
 use Rattle.model.specs.Tests.{if_then_else_}
 use Rattle.model.specs.Table.{cell}
 use borrow.Author.Needs.{needs}
-use Rattle.table.proofs.link_row.Statement.{statement}
-use Rattle.table.proofs.link_row.Tie as tie
+use Rattle.entries.proofs.link_row.Statement.{statement}
+use Rattle.entries.proofs.link_row.Tie as tie
 
 cast-link-byte : tie.Need-cast-link-byte
 cast-link-byte c = omega arith

@@ -1,7 +1,7 @@
--- `table::device_byte` meets its contract. Assumes nothing.
+-- `entries::device_byte` meets its contract. Assumes nothing.
 use borrow.Author.Needs.{needs}
-use Rattle.table.proofs.device_byte.Statement.{statement}
-use Rattle.table.proofs.device_byte.Tie as tie
+use Rattle.entries.proofs.device_byte.Statement.{statement}
+use Rattle.entries.proofs.device_byte.Tie as tie
 
 returns : tie.Need-returns
 returns c = cc

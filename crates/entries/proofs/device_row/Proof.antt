@@ -1,12 +1,12 @@
--- `table::device_row` meets its contract. Assumes nothing.
+-- `entries::device_row` meets its contract. Assumes nothing.
 use mathlib.Core.Path.{sym, _∙_}
 use native.Mathlib.Omega.{arith}
 use borrow.Author.Tests.{lt-ltb, le-ltb}
 use Rattle.model.specs.Tests.{if_then_else_}
 use Rattle.model.specs.Table.{cell}
 use borrow.Author.Needs.{needs}
-use Rattle.table.proofs.device_row.Statement.{statement}
-use Rattle.table.proofs.device_row.Tie as tie
+use Rattle.entries.proofs.device_row.Statement.{statement}
+use Rattle.entries.proofs.device_row.Tie as tie
 
 cast-device-byte : tie.Need-cast-device-byte
 cast-device-byte c = omega arith

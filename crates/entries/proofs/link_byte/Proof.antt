@@ -1,7 +1,7 @@
--- `table::link_byte` meets its contract. Assumes nothing.
+-- `entries::link_byte` meets its contract. Assumes nothing.
 use borrow.Author.Needs.{needs}
-use Rattle.table.proofs.link_byte.Statement.{statement}
-use Rattle.table.proofs.link_byte.Tie as tie
+use Rattle.entries.proofs.link_byte.Statement.{statement}
+use Rattle.entries.proofs.link_byte.Tie as tie
 
 returns : tie.Need-returns
 returns c = cc
