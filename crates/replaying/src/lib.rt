@@ -4,8 +4,8 @@ mod files;
 mod printed;
 mod session;
 
-use text::size::Size;
 use session::FAILED;
+use text::size::Size;
 
 // The status of wrong arguments, and of a refused table.
 const WRONG: u8 = 2;
