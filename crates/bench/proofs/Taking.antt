@@ -10,9 +10,9 @@ use Rattle.model.specs.Sound.{Sound}
 use Rattle.model.specs.SoundTest.{soundTest}
 use Rattle.model.specs.Methods.{requested}
 use Rattle.model.specs.Lent.{lent}
-use Rattle.requests.specs.declared.Callback as open-callback
-use Rattle.requests.specs.declared.Out.{Out}
-use Rattle.requests.specs.Answers.{replyOf, callbackOf, doneOf}
+use Rattle.answers.specs.declared.Callback as open-callback
+use Rattle.answers.specs.declared.Out.{Out}
+use Rattle.answers.specs.Answers.{replyOf, callbackOf, doneOf}
 use Rattle.records.specs.Records.{Stepped}
 
 pub taken : {s : State} {c : open-callback.Callback} {r : Rec} {w : Wiring} {d : Devices} {o : Out} → soundTest s ≡ true → Sound s → callbackOf c ≡ s .callback → Stepped (s .wiring) (s .devices) c r w d o → record { number = 0; reply = replyOf (o .reply); state = lent w d (callbackOf (o .callback)) (s .carry) } ≡ requested s r

@@ -8,7 +8,7 @@ use Rattle.model.specs.Steps.{request}
 use Rattle.model.specs.Lent.{none}
 use Rattle.model.specs.Methods.{Requested, requested}
 use Rattle.records.specs.Records.{Fit}
-use Rattle.requests.specs.Answers.{replyOf}
+use Rattle.answers.specs.Answers.{replyOf}
 use Rattle.bench.specs.declared.methods.Requested as declared
 use Rattle.bench.specs.declared.methods.Outcome.{Outcome}
 use Rattle.bench.specs.declared.methods.Outcome.the-variants.{Unsound, Replied}

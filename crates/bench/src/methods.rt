@@ -2,16 +2,15 @@
 ghost use mathlib.Core.Path.{_≡_};
 ghost use Rattle.model.specs.Records.{Done, finished};
 ghost use Rattle.model.specs.Methods.{requested};
-ghost use Rattle.requests.specs.Answers.{replyOf};
+ghost use Rattle.answers.specs.Answers.{replyOf};
 ghost use Rattle.records.specs.Records.{recOf};
 ghost use Rattle.bench.specs.declared.methods.Obstacle.the-variants.{Unsound};
 ghost use Rattle.bench.specs.Translate.{stateOf};
 ghost use Rattle.bench.specs.Methods.{requestedOf, recordFor, replyFrom, repliedWith, answerFor, Clear, Meets};
 use crate::Bench;
+use answers::Reply;
 use records::EINPROGRESS;
 use records::Record;
-use requests::Reply;
-use requests::holding;
 
 // What a request is answered: the bench is not sound (21), or the record's reply.
 pub enum Outcome {
@@ -122,7 +121,7 @@ impl Bench {
             &mut error,
             &mut children,
             &mut linked,
-            requests::opened(self.callback, self.asked, self.target),
+            answers::opened(self.callback, self.asked, self.target),
             r,
         );
         let open = out.callback;
@@ -134,9 +133,9 @@ impl Bench {
         self.error = error;
         self.children = children;
         self.linked = linked;
-        self.callback = requests::kind_of(open);
-        self.asked = requests::asked_of(open);
-        self.target = requests::target_of(open);
+        self.callback = answers::kind_of(open);
+        self.asked = answers::asked_of(open);
+        self.target = answers::target_of(open);
         replied(self, reply)
     }
 
@@ -262,9 +261,9 @@ impl Bench {
         self.status = status;
         self.children = children;
         self.linked = linked;
-        self.callback = requests::kind_of(next);
-        self.asked = requests::asked_of(next);
-        self.target = requests::target_of(next);
+        self.callback = answers::kind_of(next);
+        self.asked = answers::asked_of(next);
+        self.target = answers::target_of(next);
         let reply = out.reply;
         replied(self, reply)
     }

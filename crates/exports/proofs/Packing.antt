@@ -7,9 +7,9 @@ use Rattle.model.specs.Records.{Rec}
 use Rattle.model.specs.Steps.{recordStep}
 use Rattle.model.specs.Sound.{Sound}
 use Rattle.model.specs.Lent.{lent}
-use Rattle.requests.specs.declared.Callback as open-callback
-use Rattle.requests.specs.declared.Out.{Out}
-use Rattle.requests.specs.Answers.{doneOf, openedAs}
+use Rattle.answers.specs.declared.Callback as open-callback
+use Rattle.answers.specs.declared.Out.{Out}
+use Rattle.answers.specs.Answers.{doneOf, openedAs}
 use Rattle.records.specs.Records.{Stepped}
 use Rattle.records.proofs.Stepping.{opened-sound}
 use Rattle.exports.specs.Packed.{packedOut, SteppedIn}

@@ -7,8 +7,8 @@ use Rattle.model.specs.Records.{Rec, Reply}
 use Rattle.model.specs.Steps.{recordStep}
 use Rattle.model.specs.Sound.{Sound}
 use Rattle.model.specs.Lent.{lent}
-use Rattle.requests.specs.declared.Out.{Out}
-use Rattle.requests.specs.Answers.{replyOf, callbackOf}
+use Rattle.answers.specs.declared.Out.{Out}
+use Rattle.answers.specs.Answers.{replyOf, callbackOf}
 
 -- the reply in the low four bytes, the open callback in the three above
 abbrev pub pack : Reply → Callback → ℕ

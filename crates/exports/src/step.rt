@@ -3,10 +3,10 @@ ghost use mathlib.Core.Path.{_≡_};
 ghost use Rattle.model.specs.Table.{wired};
 ghost use Rattle.model.specs.Lent.{devicesFrom};
 ghost use Rattle.exports.specs.Packed.{packedOut, SteppedIn};
+use answers::Out;
 use model::LINKS;
 use model::ROWS;
 use records::Record;
-use requests::Out;
 
 fn wide64(x: u8) -> u64
     ensures { λ r. ⌜ r ≡ x ⌝ }
@@ -23,9 +23,9 @@ fn packed(out: Out) -> u64
     let open = out.callback;
     let code = reply.code as u64;
     let low = wide64(reply.kind) + 256 * wide64(reply.device) + 65536 * code;
-    let high = wide64(requests::kind_of(open))
-        + 256 * wide64(requests::asked_of(open))
-        + 65536 * wide64(requests::target_of(open));
+    let high = wide64(answers::kind_of(open))
+        + 256 * wide64(answers::asked_of(open))
+        + 65536 * wide64(answers::target_of(open));
     low + 4294967296 * high
 }
 
@@ -68,7 +68,7 @@ pub extern "C" fn keeper_step<'a>(
         error,
         children,
         linked,
-        requests::opened(callback, asked, target),
+        answers::opened(callback, asked, target),
         Record {
             kind: kind,
             device: device,

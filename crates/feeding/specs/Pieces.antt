@@ -11,8 +11,8 @@ use Rattle.model.specs.Steps.{run, repliesIn}
 use Rattle.model.specs.Sound.{Sound}
 use Rattle.model.specs.Feed.{Piece, Fed, feedOf}
 use Rattle.model.specs.Lent.{lent}
-use Rattle.requests.specs.declared.Callback as open-callback
-use Rattle.requests.specs.Answers.{callbackOf}
+use Rattle.answers.specs.declared.Callback as open-callback
+use Rattle.answers.specs.Answers.{callbackOf}
 use Rattle.feeding.specs.declared.Answer.{Answer}
 use Rattle.feeding.specs.declared.Answer.the-variants as answer
 use Rattle.feeding.specs.declared.Fed as declared

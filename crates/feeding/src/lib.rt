@@ -7,15 +7,15 @@ ghost use Rattle.model.specs.Limits.{MAXPIECE};
 ghost use Rattle.model.specs.Table.{wired};
 ghost use Rattle.model.specs.Records.{replyBytes};
 ghost use Rattle.model.specs.Lent.{devicesFrom};
-ghost use Rattle.requests.specs.Answers.{replyOf};
+ghost use Rattle.answers.specs.Answers.{replyOf};
 ghost use Rattle.records.specs.Records.{recOf};
 ghost use Rattle.feeding.specs.Pieces.{At, Whole, recordIn, restIn, overAt, refusedFed, Room, Ran, FedFrom};
+use answers::Callback;
+use answers::Reply;
 use model::LINKS;
 use model::PIECE;
 use model::ROWS;
 use records::Record;
-use requests::Callback;
-use requests::Reply;
 
 // What becomes of a piece: refused, or taken with so many replies.
 pub enum Answer {

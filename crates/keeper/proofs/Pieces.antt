@@ -10,8 +10,8 @@ use Rattle.model.specs.Sound.{Sound}
 use Rattle.model.specs.SoundTest.{soundTest}
 use Rattle.model.specs.Feed.{Piece, Fed, feedAnswer, feedOf}
 use Rattle.model.specs.Lent.{lent}
-use Rattle.requests.specs.declared.Callback as open-callback
-use Rattle.requests.specs.Answers.{callbackOf}
+use Rattle.answers.specs.declared.Callback as open-callback
+use Rattle.answers.specs.Answers.{callbackOf}
 use Rattle.feeding.specs.declared.Fed as declared
 use Rattle.feeding.specs.Pieces.{numberOf, repliesOf, carrying, FedFrom}
 

@@ -162,7 +162,7 @@ pub fn feed(mut bench: Bench, piece: &[u8], replies: &mut [u8]) -> Fed
         &mut error,
         &mut children,
         &mut linked,
-        requests::opened(bench.callback, bench.asked, bench.target),
+        answers::opened(bench.callback, bench.asked, bench.target),
         &mut carried,
         bench.used,
         piece,
@@ -177,9 +177,9 @@ pub fn feed(mut bench: Bench, piece: &[u8], replies: &mut [u8]) -> Fed
     bench.error = error;
     bench.children = children;
     bench.linked = linked;
-    bench.callback = requests::kind_of(open);
-    bench.asked = requests::asked_of(open);
-    bench.target = requests::target_of(open);
+    bench.callback = answers::kind_of(open);
+    bench.asked = answers::asked_of(open);
+    bench.target = answers::target_of(open);
     bench.carried = carried;
     bench.used = fed.used;
     Fed {

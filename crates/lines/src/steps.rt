@@ -2,11 +2,11 @@
 ghost use mathlib.Core.Path.{_≡_};
 ghost use Rattle.records.specs.Records.{recOf};
 ghost use Rattle.bench.specs.Methods.{recordFor};
+use answers::Callback;
 use bench::Bench;
 use bench::methods::Outcome;
 use bench::methods::Requested;
 use records::Record;
-use requests::Callback;
 
 // The kinds of records.
 pub const ENABLE: u8 = 1;
@@ -56,9 +56,9 @@ pub fn record(kind: u8, device: u8, value: u16) -> Record
 
 // The bench with this callback open.
 fn with_callback(mut b: Bench, open: Callback) -> Bench {
-    b.callback = requests::kind_of(open);
-    b.asked = requests::asked_of(open);
-    b.target = requests::target_of(open);
+    b.callback = answers::kind_of(open);
+    b.asked = answers::asked_of(open);
+    b.target = answers::target_of(open);
     b
 }
 
@@ -85,7 +85,7 @@ pub fn dispatched(mut b: Bench, r: Record) -> Requested {
         &mut error,
         &mut children,
         &mut linked,
-        requests::opened(b.callback, b.asked, b.target),
+        answers::opened(b.callback, b.asked, b.target),
         r,
     );
     let open = out.callback;

@@ -9,7 +9,7 @@ ghost use Rattle.model.specs.Questions.{tellStatus, tellHolds, tellUsage, tellC
 ghost use Rattle.bench.specs.Translate.{stateOf};
 ghost use Rattle.questions.specs.Answers.{statusOf, toldBy, Checked, statusTold, numberTold, memberTold};
 use bench::Bench;
-use requests::sleeping::usage;
+use sleeping::usage;
 
 // A device's status.
 pub enum Status {

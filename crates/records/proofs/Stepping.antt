@@ -17,13 +17,13 @@ use Rattle.model.specs.Sound.{Sound, CallbackRules, noneOpen, suspendOpen, resu
 use Rattle.model.proofs.Basics.{by-if, and-parts}
 use Rattle.model.proofs.Keeping.{none-open}
 use Rattle.model.proofs.Steps.{by-kind}
-use Rattle.requests.specs.declared.CallbackKind.{CallbackKind}
-use Rattle.requests.specs.declared.CallbackKind.the-variants.{Suspend, Resume, Idle}
-use Rattle.requests.specs.declared.Callback as open-callback
-use Rattle.requests.specs.declared.Callback.the-variants.{None, Open}
-use Rattle.requests.proofs.Callback.{the-type}
-use Rattle.requests.specs.Answers.{numberOf, callbackOf, openedAs}
-use Rattle.requests.proofs.Turning.{ready}
+use Rattle.answers.specs.declared.CallbackKind.{CallbackKind}
+use Rattle.answers.specs.declared.CallbackKind.the-variants.{Suspend, Resume, Idle}
+use Rattle.answers.specs.declared.Callback as open-callback
+use Rattle.answers.specs.declared.Callback.the-variants.{None, Open}
+use Rattle.answers.proofs.Callback.{the-type}
+use Rattle.answers.specs.Answers.{numberOf, callbackOf, openedAs}
+use Rattle.answers.proofs.Turning.{ready}
 use Rattle.records.specs.Records.{fault, resultStep, sleepingOf, settlingOf, poweringOf, Fit}
 
 -- ---- which callback is open

@@ -15,11 +15,11 @@ use Rattle.model.specs.Requests.{getWake, putIdle, idle, suspend, wake, setActi
 use Rattle.model.specs.Steps.{result, recordStep}
 use Rattle.model.specs.Sound.{Sound}
 use Rattle.model.specs.Lent.{lent}
-use Rattle.requests.specs.declared.CallbackKind.{CallbackKind}
-use Rattle.requests.specs.declared.Callback as open-callback
-use Rattle.requests.specs.declared.Out.{Out}
-use Rattle.requests.specs.Answers.{numberOf, callbackOf, doneOf}
-use Rattle.requests.specs.Promises.{Ready}
+use Rattle.answers.specs.declared.CallbackKind.{CallbackKind}
+use Rattle.answers.specs.declared.Callback as open-callback
+use Rattle.answers.specs.declared.Out.{Out}
+use Rattle.answers.specs.Answers.{numberOf, callbackOf, doneOf}
+use Rattle.answers.specs.Promises.{Ready}
 use Rattle.records.specs.declared.Record.{Record}
 use Rattle.records.specs.declared.Bounds as declared
 

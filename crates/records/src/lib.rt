@@ -6,17 +6,15 @@ ghost use Rattle.model.specs.Table.{wired};
 ghost use Rattle.model.specs.Records.{signed, allowed};
 ghost use Rattle.model.specs.Steps.{result, request};
 ghost use Rattle.model.specs.Lent.{none, devicesFrom};
-ghost use Rattle.requests.specs.Answers.{callbackOf};
-ghost use Rattle.requests.specs.Promises.{Leads, Turns};
+ghost use Rattle.answers.specs.Answers.{callbackOf};
+ghost use Rattle.answers.specs.Promises.{Leads, Turns};
 ghost use Rattle.records.specs.Records.{recOf, refusedOut, busyOut, fault, resultStep, sleepingOf, settlingOf, poweringOf, Fit, openAt, Targets, Moves, Stepped};
+use answers::Callback;
+use answers::CallbackKind;
+use answers::Out;
+use answers::Reply;
 use model::LINKS;
 use model::ROWS;
-use requests::Callback;
-use requests::CallbackKind;
-use requests::Out;
-use requests::Reply;
-use requests::holding;
-use requests::sleeping;
 
 // A record: its value is the 16-bit number as it stands.
 pub struct Record {
@@ -299,7 +297,7 @@ fn settling_request<'a>(
     ensures { λ o. ⌜ ((n : ℕ) → Fit (wired n m (now (parent .entry)) (now (ignore .entry)) (now (consumer .entry)) (now (supplier .entry)) (now (flags .entry))) (devicesFrom (now (status .entry)) (now (holds .entry)) (now (depth .entry)) (now (error .entry)) (now (children .entry)) (now (linked .entry))) p → Leads (λ s. settlingOf kind s p) none (wired n m (now (parent .entry)) (now (ignore .entry)) (now (consumer .entry)) (now (supplier .entry)) (now (flags .entry))) (devicesFrom (now (status .entry)) (now (holds .entry)) (now (depth .entry)) (now (error .entry)) (now (children .entry)) (now (linked .entry))) (devicesFrom (now (status .exit)) (now (holds .exit)) (now (depth .entry)) (now (error .exit)) (now (children .exit)) (now (linked .exit))) o) ⌝ }
 {
     match kind {
-        10 => requests::finished(
+        10 => answers::finished(
             p,
             setting::set_active(
                 parent,
@@ -316,7 +314,7 @@ fn settling_request<'a>(
                 p,
             ),
         ),
-        11 => requests::finished(
+        11 => answers::finished(
             p,
             setting::set_suspended(
                 parent,
@@ -446,11 +444,11 @@ pub fn request<'a>(
     let p = r.device;
     let v = r.value;
     match kind {
-        1 => requests::finished(p, holding::enable(depth, p)),
-        2 => requests::finished(p, holding::disable(depth, p)),
-        3 => requests::finished(p, holding::get(holds, p)),
-        5 => requests::finished(p, holding::put(holds, p)),
-        12 => requests::finished(p, setting::ignore_children(ignore, status, children, p, v)),
+        1 => answers::finished(p, holding::enable(depth, p)),
+        2 => answers::finished(p, holding::disable(depth, p)),
+        3 => answers::finished(p, holding::get(holds, p)),
+        5 => answers::finished(p, holding::put(holds, p)),
+        12 => answers::finished(p, setting::ignore_children(ignore, status, children, p, v)),
         _ => power_request(
             parent,
             ignore,

@@ -12,7 +12,7 @@ use lines::steps::PUT;
 use lines::steps::SET_ACTIVE;
 use lines::steps::SUSPEND;
 use lines::steps::after;
-use requests::sleeping::usage;
+use sleeping::usage;
 
 // 64 devices and 63 links: 7 + 2 * 64 + 3 * 63 bytes.
 const BYTES: usize = 324;

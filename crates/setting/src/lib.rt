@@ -7,17 +7,17 @@ ghost use Rattle.model.specs.Table.{wired};
 ghost use Rattle.model.specs.Requests.{running, parentDown, supplierDown, setActive, needed, setSuspended};
 ghost use Rattle.model.specs.Lent.{none, devicesFrom, ofBars, ofUse, ofParents, ofLinks};
 ghost use Rattle.links.specs.Ascending.{Ascending};
-ghost use Rattle.requests.specs.Answers.{finishedOut};
-ghost use Rattle.requests.specs.Promises.{Turns};
+ghost use Rattle.answers.specs.Answers.{finishedOut};
+ghost use Rattle.answers.specs.Promises.{Turns};
 ghost use Rattle.setting.specs.Sets.{OnIgnore, linkDown, inactiveWithChildren};
+use answers::ACTIVE;
+use answers::EAGAIN;
+use answers::EBUSY;
+use answers::SUSPENDED;
+use answers::row;
 use model::LINKS;
 use model::NONE;
 use model::ROWS;
-use requests::ACTIVE;
-use requests::EAGAIN;
-use requests::EBUSY;
-use requests::SUSPENDED;
-use requests::row;
 
 // Disable depth 0 and no error: the status of device p cannot be set.
 fn running<'a>(depth: &'a [u8; ROWS], error: &'a [u16; ROWS], p: u8) -> bool

@@ -11,23 +11,22 @@ ghost use Rattle.model.specs.State.{SUSPENDING};
 ghost use Rattle.model.specs.Requests.{wake, getWake};
 ghost use Rattle.model.specs.Steps.{goOn, resumeResult};
 ghost use Rattle.model.specs.Lent.{none, devicesFrom};
-ghost use Rattle.requests.specs.Promises.{Turns};
+ghost use Rattle.answers.specs.Promises.{Turns};
 ghost use Rattle.waking.specs.Wakes.{anyBarred, resumeOf, askingAt};
+use answers::ACTIVE;
+use answers::CallbackKind;
+use answers::EAGAIN;
+use answers::EBUSY;
+use answers::EINVAL;
+use answers::Out;
+use answers::RESUMING;
+use answers::SUSPENDED;
+use answers::ask;
+use answers::finished;
+use answers::magnitude;
+use answers::row;
 use model::LINKS;
 use model::ROWS;
-use requests::ACTIVE;
-use requests::CallbackKind;
-use requests::EAGAIN;
-use requests::EBUSY;
-use requests::EINVAL;
-use requests::Out;
-use requests::RESUMING;
-use requests::SUSPENDED;
-use requests::ask;
-use requests::finished;
-use requests::holding;
-use requests::row;
-use requests::sleeping;
 
 // A device is marked, and has an error or a disable depth above 0.
 fn bars(mark: bool, depth: u8, error: u16) -> bool
@@ -248,7 +247,7 @@ fn resume_failed<'a>(
         p,
         SUSPENDED,
     );
-    error[row(p)] = sleeping::magnitude(v);
+    error[row(p)] = magnitude(v);
     if p == t {
         return finished(t, v);
     }

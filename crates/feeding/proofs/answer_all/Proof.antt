@@ -5,7 +5,7 @@ use native.Mathlib.Omega.{arith}
 use lib.ListN.{length}
 use Rattle.model.specs.Table.{wired}
 use Rattle.model.specs.Lent.{lent, devicesFrom}
-use Rattle.requests.specs.Answers.{callbackOf}
+use Rattle.answers.specs.Answers.{callbackOf}
 use Rattle.feeding.specs.Pieces.{nothing}
 use Rattle.feeding.proofs.Joining.{Turning, looping-start, reply-fits, at-record, near, turning-more, turning-end}
 use borrow.Author.Needs.{needs}

@@ -1,7 +1,7 @@
 -- `keeper::feed` meets its contract. Assumes nothing.
 use mathlib.Core.Path.{_∙_, ap}
 use borrow.Author.Tests.{not-false}
-use Rattle.requests.specs.Answers.{callbackOf}
+use Rattle.answers.specs.Answers.{callbackOf}
 use Rattle.records.proofs.Stepping.{opened-sound}
 use Rattle.kept.proofs.Chains.{failed}
 use Rattle.keeper.proofs.Pieces.{fed-unsound, fed-sound}

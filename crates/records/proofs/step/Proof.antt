@@ -1,12 +1,12 @@
 -- `records::step` meets its contract. Assumes nothing.
 use mathlib.Core.Path.{refl}
 use Prim.Native.Nat.{_<_}
-use Rattle.requests.specs.Answers.{callbackOf}
+use Rattle.answers.specs.Answers.{callbackOf}
 use native.Mathlib.Omega.{arith}
 use borrow.Author.Tests.{eq-eqb, ne-eqb, lt-ltb, le-ltb}
 use Rattle.model.specs.Tests.{if_then_else_}
 use Rattle.records.proofs.Stepping.{some-there, record-by, formed, fit, target-known}
-use Rattle.requests.proofs.Turning.{ready}
+use Rattle.answers.proofs.Turning.{ready}
 use Rattle.model.proofs.Values.{value-low}
 use borrow.Author.Needs.{needs}
 use Rattle.records.proofs.step.Statement.{statement}

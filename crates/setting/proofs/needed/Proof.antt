@@ -2,7 +2,7 @@
 use borrow.Author.Tests.{lt-ltb, le-ltb}
 use Rattle.model.specs.Tests.{_and_}
 use Rattle.model.specs.Requests.{needed}
-use Rattle.requests.proofs.Loops.{not-above}
+use Rattle.answers.proofs.Tests.{not-above}
 use Rattle.setting.proofs.Loops.{or-last, or-rest}
 use borrow.Author.Needs.{needs}
 use Rattle.setting.proofs.needed.Statement.{statement}

@@ -2,7 +2,7 @@
 use Rattle.model.specs.Tests.{if_then_else_, _or_}
 use Rattle.model.specs.Requests.{setActive}
 use Rattle.setting.proofs.Reading.{running-reads, parent-reads, supplier-reads}
-use Rattle.requests.proofs.Turning.{after}
+use Rattle.answers.proofs.Turning.{after}
 use borrow.Author.Needs.{needs}
 use Rattle.setting.proofs.set_active.Statement.{statement}
 use Rattle.setting.proofs.set_active.Tie as tie

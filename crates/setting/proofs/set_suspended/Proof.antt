@@ -2,7 +2,7 @@
 use Rattle.model.specs.Tests.{if_then_else_}
 use Rattle.model.specs.Requests.{setSuspended}
 use Rattle.setting.proofs.Reading.{running-reads, needed-reads}
-use Rattle.requests.proofs.Turning.{after}
+use Rattle.answers.proofs.Turning.{after}
 use borrow.Author.Needs.{needs}
 use Rattle.setting.proofs.set_suspended.Statement.{statement}
 use Rattle.setting.proofs.set_suspended.Tie as tie

@@ -1,6 +1,6 @@
 -- `waking::ask_resume` meets its contract. Assumes nothing.
 use Rattle.waking.specs.Wakes.{resumeOf}
-use Rattle.requests.proofs.Turning.{after}
+use Rattle.answers.proofs.Turning.{after}
 use borrow.Author.Needs.{needs}
 use Rattle.waking.proofs.ask_resume.Statement.{statement}
 use Rattle.waking.proofs.ask_resume.Tie as tie

@@ -3,7 +3,7 @@ use mathlib.Core.Path.{_∙_}
 use Rattle.model.specs.Table.{wired}
 use Rattle.model.specs.Requests.{get, wake, getWake}
 use Rattle.model.specs.Lent.{devicesFrom, lent, none}
-use Rattle.requests.proofs.Chained.{held-stop, held-go}
+use Rattle.holding.proofs.Chained.{held-stop, held-go}
 use borrow.Author.Needs.{needs}
 use Rattle.waking.proofs.get_wake.Statement.{statement}
 use Rattle.waking.proofs.get_wake.Tie as tie

@@ -2,8 +2,8 @@
 use borrow.Author.Tests.{eq-eqb, ne-eqb}
 use Rattle.model.specs.Tests.{if_then_else_}
 use Rattle.model.specs.Steps.{resumeResult}
-use Rattle.requests.specs.Promises.{magnitude}
-use Rattle.requests.proofs.Turning.{after}
+use Rattle.answers.specs.Answers.{magnitude}
+use Rattle.answers.proofs.Turning.{after}
 use borrow.Author.Needs.{needs}
 use Rattle.waking.proofs.resume_failed.Statement.{statement}
 use Rattle.waking.proofs.resume_failed.Tie as tie

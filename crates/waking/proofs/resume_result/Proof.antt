@@ -2,7 +2,7 @@
 use borrow.Author.Tests.{eq-eqb}
 use Rattle.model.specs.Tests.{if_then_else_}
 use Rattle.model.specs.Steps.{resumeResult}
-use Rattle.requests.proofs.Turning.{after, ready-after}
+use Rattle.answers.proofs.Turning.{after, ready-after}
 use borrow.Author.Needs.{needs}
 use Rattle.waking.proofs.resume_result.Statement.{statement}
 use Rattle.waking.proofs.resume_result.Tie as tie

@@ -3,7 +3,7 @@ use mathlib.Core.Path.{_∙_, ap}
 use borrow.Author.Tests.{not-false}
 use Rattle.model.specs.Tests.{if_then_else_}
 use Rattle.model.specs.Methods.{requested}
-use Rattle.requests.specs.Answers.{callbackOf}
+use Rattle.answers.specs.Answers.{callbackOf}
 use Rattle.records.proofs.Stepping.{opened-sound}
 use Rattle.kept.proofs.Chains.{passed, failed}
 use Rattle.bench.proofs.Taking.{taken}

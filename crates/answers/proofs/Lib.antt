@@ -1,0 +1,3 @@
+-- What the proofs of transitions cite.
+pub mod Tests
+pub mod Turning

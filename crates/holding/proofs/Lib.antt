@@ -1,0 +1,2 @@
+-- What the proofs of requests that begin with a get or a put cite.
+pub mod Chained
