@@ -1,5 +1,5 @@
 # make run       the program replay, proved and built, on the worked day of examples/day
-# make day       the test programs, proved, built and run
+# make scripts   the test programs on their scripts, proved, built and run
 # make test      the gate: every check, ending with the toolchain's verdict
 # make sample    the definitions against the second implementation; SEED and COUNT choose the cases
 # make compare   the proved code against the second implementation; SEED, TABLES, BENCHES, RECORDS and FEEDS choose the cases
@@ -13,7 +13,7 @@ FEEDS ?= 100000
 # one core for the times, where that can be asked for
 PIN := $(shell command -v taskset > /dev/null && echo taskset -c 0)
 
-.PHONY: run replay day test built listed second sample harness compare states feeds replayed bench
+.PHONY: run replay scripts test built listed second sample harness compare states feeds replayed bench
 
 DAY := examples/day
 
@@ -25,17 +25,22 @@ run: replay
 	@examples/show $(DAY)/log.bin target/day/replies.bin
 	@cmp target/day/replies.bin $(DAY)/replies.bin && echo "the replies are those of document 01"
 
-# the program, with its exit status. The crates below it are proved two at a time, which `rt staticlib` would not do.
+# the program, with its exit status. The crates below it are proved two at a time, which `rt staticlib` would not do; each is named as it
+# is proved, and a crate that has not changed is not proved again.
 replay:
-	rt check keeper report
-	rt staticlib replaying
-	cd host && cargo build --release --offline --quiet
+	@echo "step 1 of 3: proving the keeper and the program, crate by crate (some three minutes on two cores)"
+	@rt check keeper replay_report > target-replay.log 2>&1 & pid=$$!; tail -f -s 1 --pid=$$pid target-replay.log 2>/dev/null | grep --line-buffered '^rt:' ; \
+	wait $$pid || { cat target-replay.log; rm -f target-replay.log; exit 1; }; rm -f target-replay.log
+	@echo "step 2 of 3: building the proved library"
+	@rt staticlib replay_files > target-replay.log 2>&1 || { cat target-replay.log; rm -f target-replay.log; exit 1; }; rm -f target-replay.log
+	@echo "step 3 of 3: building the program"
+	@cd host && cargo build --release --offline --quiet
 
-day:
-	rt check day rows pieces
-	target/bin/day
-	target/bin/rows
-	target/bin/pieces
+scripts:
+	rt check test_tables test_records test_pieces
+	target/bin/test_tables < crates/test_tables/stdin
+	target/bin/test_records < crates/test_records/stdin
+	target/bin/test_pieces < crates/test_pieces/stdin
 
 # What the checks run is proved and built first. The checks run two at a time. The toolchain's verdict proves everything anew.
 test: listed
@@ -60,10 +65,10 @@ sample:
 
 # the proved code, linked with the second implementation
 harness:
-	rt check keeper report
-	rt staticlib exports
-	rt staticlib exports_load
-	rt staticlib exports_feed
+	rt check keeper wakeset counts
+	rt staticlib export_states
+	rt staticlib export_load
+	rt staticlib export_feed
 	cd tests/compare && cargo build --release --offline --quiet
 
 compare:

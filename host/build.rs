@@ -1,4 +1,4 @@
-//! Links the proved program: `target/staticlib/libreplaying.a` of the
+//! Links the proved program: `target/staticlib/libreplay_files.a` of the
 //! repository, and the toolchain's C code for arguments and errno.
 
 use std::env;
@@ -32,9 +32,9 @@ fn main() {
     let package = PathBuf::from(env::var_os("CARGO_MANIFEST_DIR").expect("cargo sets it"));
     let out = PathBuf::from(env::var_os("OUT_DIR").expect("cargo sets it"));
     take(
-        &package.join("../target/staticlib/libreplaying.a"),
+        &package.join("../target/staticlib/libreplay_files.a"),
         &out,
-        "`rt staticlib replaying` makes it",
+        "`rt staticlib replay_files` makes it",
     );
     take(
         &toolchain().join("lib/libos_c.a"),
@@ -42,6 +42,6 @@ fn main() {
         "it is part of the toolchain",
     );
     println!("cargo:rustc-link-search=native={}", out.display());
-    println!("cargo:rustc-link-lib=static=replaying");
+    println!("cargo:rustc-link-lib=static=replay_files");
     println!("cargo:rustc-link-lib=static=os_c");
 }

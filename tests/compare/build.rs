@@ -1,4 +1,4 @@
-//! Links the keeper: the archives of `exports`, `exports_load` and `exports_feed` in
+//! Links the keeper: the archives of `export_states`, `export_load` and `export_feed` in
 //! `target/staticlib` of the repository, or in the folder that KEEPER_ARCHIVES names.
 
 use std::env;
@@ -12,7 +12,7 @@ fn main() {
         .map_or_else(|| package.join("../../target/staticlib"), PathBuf::from);
     println!("cargo:rerun-if-env-changed=KEEPER_ARCHIVES");
     println!("cargo:rustc-link-search=native={}", out.display());
-    for name in ["exports", "exports_load", "exports_feed"] {
+    for name in ["export_states", "export_load", "export_feed"] {
         link(name, &folder, &out);
     }
 }

@@ -1,23 +1,22 @@
 -- Laws of counts that follow a change: at one number, over all numbers, and of one device's status. Assumes nothing.
-use mathlib.Core.Path.{_≡_, refl, sym, _∙_, ap, ap₂}
+use mathlib.Core.Path.{_≡_, refl, sym, _∙_, ap}
 use mathlib.Core.Bool.{Bool, true, false, not, Bool·beq}
 use mathlib.Core.List.{List}
-use Prim.Native.Nat.{ℕ, zero, suc, _+_, _<_, _≤_, _%_}
+use Prim.Native.Nat.{ℕ, _+_, _<_, _≤_, _%_}
 use native.Mathlib.Omega.{arith}
 use native.Mathlib.Decide.{ℕ-discrete}
 use lib.ListN.{length, getD, set, length-set}
 use lib.Seq.{getD-set-same, getD-set-other, ext-getD}
 use lib.Dec.{eqb, ltb}
 use borrow.Author.Tests.{eq-eqb, ne-eqb, eqb-true, lt-ltb, ltb-true, ltb-false}
-use Rattle.model.specs.Limits.{LINKS, ROWS, NONE}
-use Rattle.model.specs.Tests.{if_then_else_, _and_, bit, count, tally, column}
-use Rattle.model.specs.Table.{Wiring, wired}
+use Rattle.model.specs.Limits.{ROWS}
+use Rattle.model.specs.Logic.{if_then_else_, _and_, bit, tally, column}
+use Rattle.model.specs.Table.{Wiring}
 use Rattle.model.specs.State.{powered, isChild, isLive, childCount, linkCount, childrenOf, linkedOf}
-use Rattle.model.proofs.Basics.{and-parts, and-of, by-if, none-rows}
-use Rattle.model.proofs.Tests.{tests}
-use Rattle.model.proofs.Counting.{at-column, length-column, column-same, tally-same, count-below, count-low, count-change, same-children, same-linked}
-use Rattle.links.specs.Ascending.{Ascending}
-use Rattle.counts.specs.Shifts.{Turned, next, only, hasParent, runtimeOf, Turns, Follows}
+use Rattle.model.proofs.Basics.{and-parts, and-of, by-if}
+use Rattle.model.proofs.Logic.{tests}
+use Rattle.model.proofs.Counting.{at-column, length-column, column-same, tally-same, count-below, count-low, count-change}
+use Rattle.counts.specs.Shifts.{next, only, hasParent, runtimeOf, Turns, Follows}
 
 -- ---- tallies
 tally-low : (f : ℕ → Bool) (key : ℕ → ℕ) (n q : ℕ) → tally f key n q ≤ n
@@ -54,7 +53,8 @@ module _ (f g : ℕ → Bool) (key : ℕ → ℕ) (n i : ℕ) (up : Bool) (l : i
       go false e = omega arith
 
   -- so the column has one store, of the next count where that is at most n, as every count is
-  column-next : (rows : ℕ) (col : List ℕ) (r : ℕ) → key i < rows → col ≡ column (tally f key n) rows → (next up (getD col (key i) 0) ≤ n → r ≡ next up (getD col (key i) 0)) → set col (key i) r ≡ column (tally g key n) rows
+  column-next : (rows : ℕ) (col : List ℕ) (r : ℕ) → key i < rows → col ≡ column (tally f key n) rows →
+      (next up (getD col (key i) 0) ≤ n → r ≡ next up (getD col (key i) 0)) → set col (key i) r ≡ column (tally g key n) rows
   column-next rows col r row e h =
       let long : length col ≡ rows = ap length e ∙ length-column (tally f key n) rows in
       let was : (q : ℕ) → q < rows → getD col q 0 ≡ tally f key n q = λ q l. rw e (at-column (tally f key n) rows q l) in
@@ -73,11 +73,16 @@ follow-same : {t : ℕ → Bool} {up : Bool} {key : List ℕ} {n : ℕ} {col : L
 follow-same {n = n} none = record { follows = λ f g c e. e ∙ column-same _ _ ROWS (λ q. tally-same f g _ n q (λ k. c .rest k (none k))) }
 
 -- at most i turns: where it does, the count at its key is the next one
-pub follow-one : (t : ℕ → Bool) (up : Bool) (key : List ℕ) (n i : ℕ) (col : List ℕ) (r : ℕ) → i < n → getD key i 0 < ROWS → t i ≡ true → (next up (getD col (getD key i 0) 0) ≤ n → r ≡ next up (getD col (getD key i 0) 0)) → Follows (only i t) up key n col (set col (getD key i 0) r)
+pub follow-one : (t : ℕ → Bool) (up : Bool) (key : List ℕ) (n i : ℕ) (col : List ℕ) (r : ℕ) → i < n → getD key i 0 < ROWS → t i ≡ true →
+    (next up (getD col (getD key i 0) 0) ≤ n → r ≡ next up (getD col (getD key i 0) 0)) → Follows (only i t) up key n col (set col (getD key i 0) r)
 unfolding only
 follow-one t up key n i col r l row on h =
     let here : eqb i i and t i ≡ true = and-of _ _ (eq-eqb i i refl) on in
-    record { follows = λ f g c e. column-next f g (λ k. getD key k 0) n i up l (λ k ne. c .rest k (simp tests (λ z. absurd (ne z)))) (c .from i here) (c .to i here) ROWS col r row e h }
+    record {
+      follows =
+          λ f g c e.
+          column-next f g (λ k. getD key k 0) n i up l (λ k ne. c .rest k (simp tests (λ z. absurd (ne z)))) (c .from i here) (c .to i here) ROWS col r row e h;
+    }
 
 pub follow-off : (t : ℕ → Bool) (up : Bool) (key : List ℕ) (n i : ℕ) (col : List ℕ) → t i ≡ false → Follows (only i t) up key n col col
 unfolding only
@@ -105,7 +110,8 @@ mixed-turns s t up i f g same c =
     }
 
 -- below i, then at i
-pub under-more : (t : ℕ → Bool) (up : Bool) (key : List ℕ) (n i : ℕ) (a b c : List ℕ) → Follows (under i t) up key n a b → Follows (only i t) up key n b c → Follows (under (i + 1) t) up key n a c
+pub under-more : (t : ℕ → Bool) (up : Bool) (key : List ℕ) (n i : ℕ) (a b c : List ℕ) → Follows (under i t) up key n a b →
+    Follows (only i t) up key n b c → Follows (under (i + 1) t) up key n a c
 unfolding under only mixed _and_
 under-more t up key n i a b c h k =
     record {
@@ -113,7 +119,12 @@ under-more t up key n i a b c h k =
           λ f g z e.
           k .follows (mixed i g f) g
           (record {
-            from = λ j o. let x = and-parts _ _ o in let y = eqb-true j i (x .0) in by-if (λ u. u ≡ not up) (ltb j i) _ _ (λ u. absurd (let q = ltb-true j i u in omega arith)) (λ u. z .from j (and-of _ _ (lt-ltb j (i + 1) (omega arith)) (x .1)));
+            from =
+                λ j o.
+                let x = and-parts _ _ o in
+                let y = eqb-true j i (x .0) in
+                by-if (λ u. u ≡ not up) (ltb j i) _ _ (λ u. absurd (let q = ltb-true j i u in omega arith))
+                (λ u. z .from j (and-of _ _ (lt-ltb j (i + 1) (omega arith)) (x .1)));
             to = λ j o. let x = and-parts _ _ o in let y = eqb-true j i (x .0) in z .to j (and-of _ _ (lt-ltb j (i + 1) (omega arith)) (x .1));
             rest = λ j o. by-if (λ u. u ≡ g j) (ltb j i) _ _ (λ u. refl) (λ u. let q = ltb-false j i u in z .rest j (simp tests (λ y. (simp tests at o) (omega arith))));
           })
@@ -121,10 +132,16 @@ under-more t up key n i a b c h k =
     }
 
 -- below i and no further
-pub under-rest : (t : ℕ → Bool) (up : Bool) (key : List ℕ) (n i : ℕ) (a b : List ℕ) → ((k : ℕ) → i ≤ k → k < n → t k ≡ false) → Follows (under i t) up key n a b → Follows t up key n a b
+pub under-rest : (t : ℕ → Bool) (up : Bool) (key : List ℕ) (n i : ℕ) (a b : List ℕ) → ((k : ℕ) → i ≤ k → k < n → t k ≡ false) →
+    Follows (under i t) up key n a b → Follows t up key n a b
 unfolding mixed if_then_else_
 under-rest t up key n i a b none h =
-    record { follows = λ f g z e. h .follows f (mixed i g f) (mixed-turns t t up i f g (λ k l. refl) z) e ∙ column-same _ _ ROWS (λ q. tally-below (mixed i g f) g _ n q (λ k l. by-if (λ x. x ≡ g k) (ltb k i) _ _ (λ y. refl) (λ y. z .rest k (none k (ltb-false k i y) l)))) }
+    record {
+      follows =
+          λ f g z e.
+          let same : (k : ℕ) → k < n → mixed i g f k ≡ g k = λ k l. by-if (λ x. x ≡ g k) (ltb k i) _ _ (λ y. refl) (λ y. z .rest k (none k (ltb-false k i y) l)) in
+          h .follows f (mixed i g f) (mixed-turns t t up i f g (λ k l. refl) z) e ∙ column-same _ _ ROWS (λ q. tally-below (mixed i g f) g _ n q same);
+    }
 
 -- a link of another device
 pub not-of : (consumer flags : List ℕ) (p k : ℕ) → (getD consumer k 0 ≡ p → ⊥) → runtimeOf consumer flags p k ≡ false
@@ -144,7 +161,8 @@ and-off false y e = refl
 
 -- what counts where its device is powered turns with p's status, where p is its device
 module _ (status : List ℕ) (p v : ℕ) (l : p < length status) (turned : powered (getD status p 0) ≡ not (powered v)) where
-  status-turns : (who : ℕ → ℕ) (t : ℕ → Bool) → Turns (λ k. eqb (who k) p and t k) (powered v) (λ k. powered (getD status (who k) 0) and t k) (λ k. powered (getD (set status p v) (who k) 0) and t k)
+  status-turns : (who : ℕ → ℕ) (t : ℕ → Bool) →
+      Turns (λ k. eqb (who k) p and t k) (powered v) (λ k. powered (getD status (who k) 0) and t k) (λ k. powered (getD (set status p v) (who k) 0) and t k)
   status-turns who t =
       record {
         from = λ k h. let x = and-parts _ _ h in and-on _ _ (x .1) ∙ rw (eqb-true (who k) p (x .0)) turned;
@@ -152,48 +170,24 @@ module _ (status : List ℕ) (p v : ℕ) (l : p < length status) (turned : power
         rest = λ k h. elim (ℕ-discrete (who k) p) [ yes e ↦ let x = (simp tests at h) e in and-off _ _ x ∙ sym (and-off _ _ x) | no ne ↦ rw (getD-set-other status p (who k) v 0 ne) ];
       }
 
-  children-follow : (w : Wiring) (a b : List ℕ) → Follows (only p (hasParent (w .parent))) (powered v) (w .parent) (w .n) a b → a ≡ childrenOf w status → b ≡ childrenOf w (set status p v)
+  pub children-follow : (w : Wiring) (a b : List ℕ) → Follows (only p (hasParent (w .parent))) (powered v) (w .parent) (w .n) a b →
+      a ≡ childrenOf w status → b ≡ childrenOf w (set status p v)
   unfolding childrenOf childCount isChild only hasParent
   children-follow w a b h e = h .follows (isChild w status) (isChild w (set status p v)) (status-turns (λ k. k) (hasParent (w .parent))) e
 
-  linked-follow : (w : Wiring) (a b : List ℕ) → Follows (runtimeOf (w .consumer) (w .flags) p) (powered v) (w .supplier) (w .m) a b → a ≡ linkedOf w status → b ≡ linkedOf w (set status p v)
+  pub linked-follow : (w : Wiring) (a b : List ℕ) → Follows (runtimeOf (w .consumer) (w .flags) p) (powered v) (w .supplier) (w .m) a b →
+      a ≡ linkedOf w status → b ≡ linkedOf w (set status p v)
   unfolding linkedOf linkCount isLive runtimeOf
   linked-follow w a b h e = h .follows (isLive w status) (isLive w (set status p v)) (status-turns (λ k. getD (w .consumer) k 0) (λ k. eqb (getD (w .flags) k 0 % 2) 1)) e
 
-beq-same : (a b : Bool) → Bool·beq a b ≡ true → b ≡ a
+pub beq-same : (a b : Bool) → Bool·beq a b ≡ true → b ≡ a
 beq-same true true e = refl
 beq-same true false e = e
 beq-same false true e = sym e
 beq-same false false e = refl
 
-beq-other : (a b : Bool) → Bool·beq a b ≡ false → a ≡ not b
+pub beq-other : (a b : Bool) → Bool·beq a b ≡ false → a ≡ not b
 beq-other true true e = e
 beq-other true false e = refl
 beq-other false true e = refl
 beq-other false false e = sym e
-
--- the status of p set: where it stays powered or stays sleeping the counts stay, else they follow
-module _ (m : ℕ) (parent consumer supplier flags : List ℕ) (p v : ℕ) (status children linked : List ℕ) where
-  pub turned-same : Bool·beq (powered (getD status p 0)) (powered v) ≡ true → Turned m parent consumer supplier flags p v status children linked (set status p v) children linked
-  turned-same e =
-      record {
-        status = refl;
-        counts =
-            λ n ignore few l most up long z.
-            let row : p < length status = let r = none-rows few in omega arith in
-            let w = wired n m parent ignore consumer supplier flags in
-            let same = beq-same _ _ e in
-            record { children = z .children ∙ sym (same-children w status p v row same); linked = z .linked ∙ sym (same-linked w status p v row same) };
-      }
-
-  pub turned-other : Bool·beq (powered (getD status p 0)) (powered v) ≡ false → (children′ linked′ : List ℕ) → ((n : ℕ) → p < n → n ≤ NONE → Follows (only p (hasParent parent)) (powered v) parent n children children′) → (m ≤ LINKS → Ascending consumer m → Follows (runtimeOf consumer flags p) (powered v) supplier m linked linked′) → Turned m parent consumer supplier flags p v status children linked (set status p v) children′ linked′
-  turned-other e children′ linked′ c h =
-      record {
-        status = refl;
-        counts =
-            λ n ignore few l most up long z.
-            let row : p < length status = let r = none-rows few in omega arith in
-            let w = wired n m parent ignore consumer supplier flags in
-            let other = beq-other _ _ e in
-            record { children = children-follow status p v row other w children children′ (c n l few) (z .children); linked = linked-follow status p v row other w linked linked′ (h most up) (z .linked) };
-      }

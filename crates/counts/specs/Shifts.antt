@@ -1,32 +1,54 @@
--- Counts in line with the status of the devices, and how they follow a change of it. Assumes nothing.
+-- How the counts follow a change of status, step by step. Assumes nothing.
 use mathlib.Core.Path.{_≡_}
 use mathlib.Core.Bool.{Bool, true, false, not}
 use mathlib.Core.List.{List}
-use Prim.Native.Nat.{ℕ, _+_, _-_, _<_, _≤_, _%_}
-use lib.ListN.{length, getD, set}
-use lib.Dec.{eqb}
+use Prim.Native.Nat.{ℕ, zero, suc, _+_, _-_, _<_, _≤_, _%_}
+use lib.ListN.{getD, set}
+use lib.Dec.{eqb, leb}
 use Rattle.model.specs.Limits.{LINKS, ROWS, NONE}
-use Rattle.model.specs.Tests.{if_then_else_, _and_, tally, column}
-use Rattle.model.specs.Table.{Wiring, wired}
-use Rattle.model.specs.State.{childrenOf, linkedOf}
-use Rattle.links.specs.Ascending.{Ascending}
+use Rattle.model.specs.Logic.{if_then_else_, _and_, tally, column}
+use Rattle.model.specs.Table.{Wiring}
+use Rattle.model.specs.State.{State, childrenAt, withStatus}
+use Rattle.memory.specs.Layout.{stateIn}
+use Rattle.links.specs.Firsts.{Indexed}
+use Rattle.memory.specs.Cells.{withChildren, withLinkedColumn}
 
--- the stored counts are the recounts
-pub record InLine (w : Wiring) (status childCounts linkCounts : List ℕ) : Type 0 where
-  pub children : childCounts ≡ childrenOf w status
-  pub linked : linkCounts ≡ linkedOf w status
+-- the status of p is v, and counts that were in line are so again
+pub record Turned (p v : ℕ) (first bytes₀ words₀ bytes words : List ℕ) : Type 0 where
+  pub is : Indexed (stateIn bytes₀ words₀) first → p < stateIn bytes₀ words₀ .wiring .n → stateIn bytes words ≡ withStatus (stateIn bytes₀ words₀) p v
 
--- the status of p is v, and counts that were in line are so again, whatever the device count and whoever ignores children
-pub record Turned (m : ℕ) (parent consumer supplier flags : List ℕ) (p v : ℕ) (status₀ children₀ linked₀ status₁ children₁ linked₁ : List ℕ) : Type 0 where
-  pub status : status₁ ≡ set status₀ p v
-  pub counts : (n : ℕ) (ignore : List ℕ) → n ≤ NONE → p < n → m ≤ LINKS → Ascending consumer m → length status₀ ≡ ROWS → InLine (wired n m parent ignore consumer supplier flags) status₀ children₀ linked₀ → InLine (wired n m parent ignore consumer supplier flags) status₁ children₁ linked₁
+-- link k is a runtime link of the consumer p
+unfoldable pub runtimeOf : List ℕ → List ℕ → ℕ → ℕ → Bool
+runtimeOf consumer flags p k = eqb (getD consumer k 0) p and eqb (getD flags k 0 % 2) 1
 
--- ---- step by step
--- a byte as a row of a device column
-pub record Row (x r : ℕ) : Type 0 where
-  pub same : r ≡ x
-  pub low : r ≤ NONE
+-- ---- what the code does
+-- a count one more or one less; it stays where that would pass the most
+unfoldable pub nextUpTo : ℕ → Bool → ℕ → ℕ
+nextUpTo most up x = if up then if leb most x then x else x + 1 else x - 1
 
+-- device p's parent, if it has one, counts p or counts it no more
+unfoldable pub shiftChild : State → ℕ → Bool → State
+shiftChild s p up = let q = getD (s .wiring .parent) p 0 in if eqb q NONE then s else withChildren s q (nextUpTo 255 up (childrenAt s q))
+
+-- link i, and k links from a on
+unfoldable pub linkStep : Wiring → Bool → ℕ → List ℕ → List ℕ
+linkStep w up i col = let q = getD (w .supplier) i 0 in if eqb (getD (w .flags) i 0 % 2) 1 then set col q (nextUpTo 65535 up (getD col q 0)) else col
+
+unfoldable pub shiftLink : State → Bool → ℕ → State
+shiftLink s up i = withLinkedColumn s (linkStep (s .wiring) up i (s .devices .linked))
+
+unfoldable pub linkSteps : Wiring → Bool → ℕ → ℕ → List ℕ → List ℕ
+linkSteps w up a zero col = col
+linkSteps w up a (suc k) col = linkStep w up (a + k) (linkSteps w up a k col)
+
+unfoldable pub shiftLinks : State → Bool → ℕ → ℕ → State
+shiftLinks s up a k = withLinkedColumn s (linkSteps (s .wiring) up a k (s .devices .linked))
+
+-- the links from where the index has p's first to where it has the next device's
+pub record LinksShifted (first : List ℕ) (p : ℕ) (up : Bool) (bytes words₀ words : List ℕ) : Type 0 where
+  pub is : (a b : ℕ) → getD first p 0 ≡ a → getD first (p + 1) 0 ≡ b → b ≤ LINKS → stateIn bytes words ≡ shiftLinks (stateIn bytes words₀) up a (b - a)
+
+-- ---- what it amounts to
 -- a count one more, or one less
 unfoldable pub next : Bool → ℕ → ℕ
 next up x = if up then x + 1 else x - 1
@@ -38,10 +60,6 @@ only i t k = eqb k i and t k
 -- device k has a parent
 unfoldable pub hasParent : List ℕ → ℕ → Bool
 hasParent parent k = not (eqb (getD parent k 0) NONE)
-
--- link k is a runtime link of the consumer p
-unfoldable pub runtimeOf : List ℕ → List ℕ → ℕ → ℕ → Bool
-runtimeOf consumer flags p k = eqb (getD consumer k 0) p and eqb (getD flags k 0 % 2) 1
 
 -- from f to g, the numbers that pass t turn up, or turn down, and the others stay
 pub record Turns (t : ℕ → Bool) (up : Bool) (f g : ℕ → Bool) : Type 0 where

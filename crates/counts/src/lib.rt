@@ -1,30 +1,39 @@
 // The stored counts of powered children and of powered consumers' runtime links, brought into line as one device's status changes.
 ghost use mathlib.Core.Path.{_≡_};
-ghost use Prim.Native.Nat.{ℕ, _<_, _≤_};
-ghost use Rattle.model.specs.Limits.{LINKS, NONE};
+ghost use mathlib.Core.List.{List};
+ghost use Prim.Native.Nat.{ℕ};
+ghost use Rattle.model.specs.Logic.{if_then_else_};
 ghost use Rattle.model.specs.State.{powered};
-ghost use Rattle.links.specs.Ascending.{Ascending};
-ghost use Rattle.counts.specs.Shifts.{Row, next, only, hasParent, runtimeOf, Follows, Turned};
+ghost use Rattle.memory.specs.Layout.{Becomes};
+ghost use Rattle.counts.specs.Shifts.{nextUpTo, shiftChild, shiftLink, LinksShifted, Turned};
+use basics::row;
+use basics::wide;
+use links::FIRSTS;
+use memory::BYTES;
+use memory::WORDS;
+use memory::children;
+use memory::flags;
+use memory::linked;
+use memory::parent;
+use memory::set_children;
+use memory::set_linked;
+use memory::set_status_cell;
+use memory::status;
+use memory::supplier;
+use model::ACTIVE;
 use model::LINKS;
 use model::NONE;
-use model::ROWS;
-
-fn wide(x: u8) -> usize
-    ensures { λ r. ⌜ Row x r ⌝ }
-{
-    x as usize
-}
 
 // Active or suspending.
 fn powered(v: u8) -> bool
     ensures { λ r. ⌜ r ≡ powered v ⌝ }
 {
-    2 <= v
+    ACTIVE <= v
 }
 
 // A child count one more or one less; it stays where that would wrap.
 fn next_children(children: u8, up: bool) -> u8
-    ensures { λ r. ⌜ (next up children ≤ 255 → r ≡ next up children) ⌝ }
+    ensures { λ r. ⌜ r ≡ nextUpTo 255 up children ⌝ }
 {
     if up {
         if 255 <= children {
@@ -33,14 +42,14 @@ fn next_children(children: u8, up: bool) -> u8
         return children + 1;
     }
     if children < 1 {
-        return children;
+        return 0;
     }
     children - 1
 }
 
 // A link count one more or one less; it stays where that would wrap.
-fn next_links(links: u16, up: bool) -> u16
-    ensures { λ r. ⌜ (next up links ≤ 65535 → r ≡ next up links) ⌝ }
+fn next_links(links: u32, up: bool) -> u32
+    ensures { λ r. ⌜ r ≡ nextUpTo 65535 up links ⌝ }
 {
     if up {
         if 65535 <= links {
@@ -49,101 +58,78 @@ fn next_links(links: u16, up: bool) -> u16
         return links + 1;
     }
     if links < 1 {
-        return links;
+        return 0;
     }
     links - 1
 }
 
 // Device p's parent, if it has one, counts p or counts it no more.
-fn shift_child(parent: &[u8; ROWS], children: &mut [u8; ROWS], p: u8, up: bool)
-    ensures { λ _. ⌜ ((n : ℕ) → p < n → n ≤ NONE → Follows (only p (hasParent (now (parent .entry)))) up (now (parent .entry)) n (now (children .entry)) (now (children .exit))) ⌝ }
+fn shift_child(bytes: &mut [u8; BYTES], p: u8, up: bool)
+    ensures { λ _. ⌜ ((words : List ℕ) → Becomes (λ s. shiftChild s p up) (now (bytes .entry)) words (now (bytes .exit)) words) ⌝ }
 {
-    let q = parent[wide(p)];
+    let q = parent(bytes, p);
     if q == NONE {
         return;
     }
-    let at = wide(q);
-    children[at] = next_children(children[at], up);
+    let old = children(bytes, q);
+    set_children(bytes, q, next_children(old, up));
 }
 
-// Link i is a runtime link of the consumer p.
-fn runtime_of<'a>(consumer: &'a [u8; LINKS], flags: &'a [u8; LINKS], p: u8, i: usize) -> bool
-    requires { ⌜ i < LINKS ⌝ }
-    ensures { λ r. ⌜ r ≡ runtimeOf (now (consumer .entry)) (now (flags .entry)) p i ⌝ }
+// The next count of a runtime link's supplier; another link leaves the count as it was.
+fn if_runtime(runtime: bool, next: u32, old: u32) -> u32
+    ensures { λ r. ⌜ r ≡ (if runtime then next else old) ⌝ }
 {
-    if consumer[i] != p {
-        return false;
-    }
-    flags[i] % 2 == 1
+    if runtime { next } else { old }
 }
 
-// The supplier of link i counts it or counts it no more, where it is a runtime link of p.
-fn shift_link<'a>(
-    consumer: &'a [u8; LINKS],
-    supplier: &'a [u8; LINKS],
-    flags: &'a [u8; LINKS],
-    i: usize,
-    linked: &mut [u16; ROWS],
-    p: u8,
-    up: bool,
-)
-    requires { ⌜ i < LINKS ⌝ }
-    ensures { λ _. ⌜ ((m : ℕ) → i < m → m ≤ LINKS → Follows (only i (runtimeOf (now (consumer .entry)) (now (flags .entry)) p)) up (now (supplier .entry)) m (now (linked .entry)) (now (linked .exit))) ⌝ }
+// The supplier of link i counts it or counts it no more, where it is a runtime link.
+fn shift_link<'a>(bytes: &'a [u8; BYTES], words: &mut [u32; WORDS], up: bool, i: usize)
+    ensures { λ _. ⌜ Becomes (λ s. shiftLink s up i) (now (bytes .entry)) (now (words .entry)) (now (bytes .entry)) (now (words .exit)) ⌝ }
 {
-    if runtime_of(consumer, flags, p, i) {
-        let at = wide(supplier[i]);
-        linked[at] = next_links(linked[at], up);
-    }
+    let q = supplier(bytes, i);
+    let old = linked(words, q);
+    let next = if_runtime(flags(bytes, i) % 2 == 1, next_links(old, up), old);
+    set_linked(words, q, next);
 }
 
-// The suppliers of p's runtime links count them or count them no more. Links ascend by consumer, so those of p stand together.
+// The suppliers of p's runtime links count them or count them no more.
 fn shift_links<'a>(
-    consumer: &'a [u8; LINKS],
-    supplier: &'a [u8; LINKS],
-    flags: &'a [u8; LINKS],
-    m: u16,
-    linked: &mut [u16; ROWS],
+    bytes: &'a [u8; BYTES],
+    words: &mut [u32; WORDS],
+    first: &'a [u16; FIRSTS],
     p: u8,
     up: bool,
 )
-    ensures { λ _. ⌜ (m ≤ LINKS → Ascending (now (consumer .entry)) m → Follows (runtimeOf (now (consumer .entry)) (now (flags .entry)) p) up (now (supplier .entry)) m (now (linked .entry)) (now (linked .exit))) ⌝ }
+    ensures { λ _. ⌜ LinksShifted (now (first .entry)) p up (now (bytes .entry)) (now (words .entry)) (now (words .exit)) ⌝ }
 {
-    let many = m as usize;
-    if LINKS < many {
+    let at = row(p);
+    let mut i = wide(first[at]);
+    let end = wide(first[at + 1]);
+    if LINKS < end {
         return;
     }
-    let mut i: usize = links::first_link(consumer, many, p);
-    while i < many {
-        if p < consumer[i] {
-            return;
-        }
-        shift_link(consumer, supplier, flags, i, linked, p, up);
+    while i < end {
+        shift_link(bytes, words, up, i);
         i += 1;
     }
 }
 
 // The status of device p becomes v, and the counts follow.
 pub fn set_status<'a>(
-    parent: &'a [u8; ROWS],
-    consumer: &'a [u8; LINKS],
-    supplier: &'a [u8; LINKS],
-    flags: &'a [u8; LINKS],
-    m: u16,
-    status: &mut [u8; ROWS],
-    children: &mut [u8; ROWS],
-    linked: &mut [u16; ROWS],
+    bytes: &mut [u8; BYTES],
+    words: &mut [u32; WORDS],
+    first: &'a [u16; FIRSTS],
     p: u8,
     v: u8,
 )
-    ensures { λ _. ⌜ Turned m (now (parent .entry)) (now (consumer .entry)) (now (supplier .entry)) (now (flags .entry)) p v (now (status .entry)) (now (children .entry)) (now (linked .entry)) (now (status .exit)) (now (children .exit)) (now (linked .exit)) ⌝ }
+    ensures { λ _. ⌜ Turned p v (now (first .entry)) (now (bytes .entry)) (now (words .entry)) (now (bytes .exit)) (now (words .exit)) ⌝ }
 {
-    let at = wide(p);
-    let old = powered(status[at]);
+    let old = powered(status(bytes, p));
     let up = powered(v);
-    status[at] = v;
+    set_status_cell(bytes, p, v);
     if old == up {
         return;
     }
-    shift_child(parent, children, p, up);
-    shift_links(consumer, supplier, flags, m, linked, p, up);
+    shift_child(bytes, p, up);
+    shift_links(bytes, words, first, p, up);
 }

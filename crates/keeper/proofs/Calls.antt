@@ -9,14 +9,14 @@ use borrow.Fn.World as World
 use contract.Lifetimes.{Lfts}
 use denote.Triple.Clauses as Clauses
 use borrow.Fn.Kinds as Ends
-use Rattle.model.specs.State.{State, loadOf}
-use Rattle.model.specs.Feed.{Piece, Fed, feedOf}
-use Rattle.model.specs.Demand3.{feedAll, handedBack, joined, Agrees}
+use Rattle.model.specs.State.{loadOf}
+use Rattle.model.specs.Feed.{Fed, feedOf}
+use Rattle.model.specs.Demand3.{feedAll, handedBack}
 use Rattle.model.proofs.Pieces.{demand-3}
 use Rattle.table.specs.Answers.{answerOf}
-use Rattle.bench.specs.declared.Bench.{Bench}
-use Rattle.bench.specs.Translate.{stateOf}
-use Rattle.keeper.specs.Calls.{LoadCall, FeedCall, gave, pieces, Linked, last, LoadMet, FeedMet, AllMet, Agreed}
+use Rattle.keeper_bench.specs.declared.Bench.{Bench}
+use Rattle.keeper_bench.specs.Translate.{stateOf}
+use Rattle.keeper.specs.Calls.{LoadCall, FeedCall, gave, pieces, Linked, last, LoadMet, AllMet, Agreed}
 use Rattle.keeper.proofs.load
 use Rattle.keeper.proofs.load.Kinds as load-kinds
 use Rattle.keeper.proofs.load.Reads as load-reads
@@ -105,7 +105,10 @@ all-met (r ∷ rs) = (r .learnt, all-met rs)
 
 -- demand 3: any table that loads, any list of calls each given the bench that the one before it handed back, at the start (k = 0) and
 -- after each piece
-pub demand-3-calls : (l : LoadRead) → answerOf (loadCall l .result .answer) .number ≡ 0 → (rs : List FeedRead) → Linked (loadCall l .result .bench) (feedCalls rs) → (k : ℕ) → Agreed (loadCall l .table) (loadCall l .result .bench) (take k (feedCalls rs))
+pub demand-3-calls :
+    (l : LoadRead) → answerOf (loadCall l .result .answer) .number ≡ 0
+    → (rs : List FeedRead) → Linked (loadCall l .result .bench) (feedCalls rs)
+    → (k : ℕ) → Agreed (loadCall l .table) (loadCall l .result .bench) (take k (feedCalls rs))
 demand-3-calls l e rs i k =
     let cs = feedCalls rs in
     let b = loadCall l .result .bench in

@@ -7,9 +7,9 @@ use Rattle.model.specs.Steps.{run, repliesIn}
 use Rattle.model.specs.Sound.{Supply}
 use Rattle.model.specs.Feed.{Piece, Fed, feedOf}
 use Rattle.model.specs.Demand3.{joined, refusals, takenBytes, isGet, isPut, counted}
-use Rattle.feeding.specs.Pieces.{numberOf}
-use Rattle.bench.specs.declared.Bench.{Bench}
-use Rattle.bench.specs.Translate.{stateOf}
+use Rattle.record_feed.specs.Pieces.{numberOf}
+use Rattle.keeper_bench.specs.declared.Bench.{Bench}
+use Rattle.keeper_bench.specs.Translate.{stateOf}
 use Rattle.keeper.specs.declared.Loaded as declared
 use Rattle.keeper.specs.declared.Fed as declared-fed
 use Rattle.keeper.specs.Translate.{loadedOf, fedOf}
@@ -64,4 +64,7 @@ pub record Agreed (table : List ℕ) (b : Bench) (cs : List FeedCall) : Type 0 w
   pub state : stateOf (last b cs) ≡ run (loadOf table .state) (takenBytes 0 (pieces cs)) .state
   pub supply : let z = stateOf (last b cs) in Supply (z .wiring) (z .devices .status)
   -- use count and counted puts are counted gets and runtime links whose consumer is powered
-  pub uses : let z = stateOf (last b cs) in let log = run (loadOf table .state) (takenBytes 0 (pieces cs)) .log in (q : ℕ) → q < z .wiring .n → usage z q + counted isPut q log ≡ counted isGet q log + linkCount (z .wiring) (z .devices .status) q
+  pub uses :
+      let z = stateOf (last b cs) in
+      let log = run (loadOf table .state) (takenBytes 0 (pieces cs)) .log in
+      (q : ℕ) → q < z .wiring .n → usage z q + counted isPut q log ≡ counted isGet q log + linkCount (z .wiring) (z .devices .status) q

@@ -1,6 +1,5 @@
--- Laws of links in order. Assumes nothing.
+-- Links in order: those of a device are the ones from its first link to the next device's. Assumes nothing.
 use mathlib.Core.Path.{_≡_, refl, ap}
-use mathlib.Core.Bool.{Bool, true, false}
 use mathlib.Core.List.{List}
 use Prim.Native.Nat.{ℕ, zero, suc, _+_, _-_, _<_, _≤_}
 use native.Mathlib.Omega.{arith}
@@ -8,81 +7,109 @@ use native.Mathlib.Decide.{decLt}
 use lib.ListN.{getD}
 use lib.Dec.{ltb}
 use borrow.Author.Tests.{lt-ltb, le-ltb}
-use Rattle.model.specs.Limits.{LINKS}
-use Rattle.model.specs.Tests.{bit, count}
+use Rattle.model.specs.Limits.{ROWS, LINKS}
+use Rattle.model.specs.Logic.{bit, count}
 use Rattle.model.specs.Table.{Wiring, before}
-use Rattle.model.specs.Sound.{TableRules}
-use Rattle.model.proofs.Tests.{tests}
-use Rattle.model.proofs.Counting.{count-low}
-use Rattle.links.specs.Ascending.{Ascending}
+use Rattle.model.specs.State.{State}
+use Rattle.model.specs.Sound.{Ordered}
+use Rattle.model.proofs.Basics.{few-rows}
+use Rattle.model.proofs.Logic.{tests}
+use Rattle.model.proofs.Counting.{at-column, count-low, bit-low}
+use Rattle.links.specs.Firsts.{firstLink, firstLinks, Listed, Indexed}
 
--- a table that keeps the rules
-pub rules-ascend : {w : Wiring} → TableRules w → Ascending (w .consumer) (w .m)
-unfolding before
-rules-ascend {w} h =
-    record {
-      next = λ i l.
-          let f = simp tests at (h .ascending i (omega arith)) in
-          elim (decLt (getD (w .consumer) (i + 1) 0) (getD (w .consumer) i 0)) [ yes y ↦ let e = f (omega arith) .0 in omega arith | no n ↦ omega arith ];
-      rest = λ i l g. h .consumerRows .unused i l;
-    }
+module _ {w : Wiring} (r : Ordered w) where
+  ascends : (i : ℕ) → i + 1 < w .m → getD (w .consumer) i 0 ≤ getD (w .consumer) (i + 1) 0
+  unfolding before
+  ascends i l =
+      let f = simp tests at (r .ascending i (omega arith)) in
+      elim (decLt (getD (w .consumer) (i + 1) 0) (getD (w .consumer) i 0)) [ yes y ↦ let e = f (omega arith) .0 in omega arith | no n ↦ omega arith ]
 
--- ---- the rows of one block after others
-pub count-joined : (f : ℕ → Bool) (a b : ℕ) → count f (a + b) ≡ count f a + count (λ i. f (a + i)) b
-unfolding count
-count-joined f a zero = let e : a + 0 ≡ a = omega arith in rw e (omega arith)
-count-joined f a (suc b) = let e : a + suc b ≡ suc (a + b) = omega arith in let h = count-joined f a b in rw e (omega arith)
-
--- ---- an order of several steps
-module _ {consumer : List ℕ} {m : ℕ} (a : Ascending consumer m) where
-  steps : (i k : ℕ) → i + k < m → getD consumer i 0 ≤ getD consumer (i + k) 0
+  steps : (i k : ℕ) → i + k < w .m → getD (w .consumer) i 0 ≤ getD (w .consumer) (i + k) 0
   steps i zero l = let e : i + 0 ≡ i = omega arith in rw e (omega arith)
   steps i (suc k) l =
       let e : i + suc k ≡ i + k + 1 = omega arith in
       let f = steps i k (omega arith) in
-      let g = a .next (i + k) (omega arith) in
+      let g = ascends (i + k) (omega arith) in
       rw e (omega arith)
 
-  pub ordered : (i j : ℕ) → i ≤ j → j < m → getD consumer i 0 ≤ getD consumer j 0
+  ordered : (i j : ℕ) → i ≤ j → j < w .m → getD (w .consumer) i 0 ≤ getD (w .consumer) j 0
   ordered i j h l = let e : i + (j - i) ≡ j = omega arith in rw e at (steps i (j - i) (omega arith))
 
-  -- after a link of a later device there is none of p
-  pub none-after : (p i j : ℕ) → p < getD consumer i 0 → i ≤ j → j < m → getD consumer j 0 ≡ p → ⊥
-  none-after p i j h le l e = let z = ordered i j le l in omega arith
-
-  low : (p n : ℕ) → n ≤ m → (j : ℕ) → j < count (λ i. ltb (getD consumer i 0) p) n → getD consumer j 0 < p
+  -- among the links before n, the ones below p come first
+  low : (p n : ℕ) → n ≤ w .m → (j : ℕ) → j < count (λ i. ltb (getD (w .consumer) i 0) p) n → getD (w .consumer) j 0 < p
   unfolding count
   low p zero h j l = absurd (omega arith)
   low p (suc n) h j l =
-      elim (decLt (getD consumer n 0) p) [
-        | yes y ↦ let z = count-low (λ i. ltb (getD consumer i 0) p) (suc n) in let o = ordered j n (omega arith) (omega arith) in omega arith
-        | no g ↦ let b : bit (ltb (getD consumer n 0) p) ≡ 0 = ap bit (le-ltb (getD consumer n 0) p (omega arith)) in low p n (omega arith) j (omega arith)
+      elim (decLt (getD (w .consumer) n 0) p) [
+        | yes y ↦ let z = count-low (λ i. ltb (getD (w .consumer) i 0) p) (suc n) in let o = ordered j n (omega arith) (omega arith) in omega arith
+        | no g ↦ let b : bit (ltb (getD (w .consumer) n 0) p) ≡ 0 = ap bit (le-ltb (getD (w .consumer) n 0) p (omega arith)) in low p n (omega arith) j (omega arith)
       ]
 
-  -- the rows after the links, and the links
-  beyond : (p k : ℕ) → m + k ≤ LINKS → 1 ≤ p → count (λ i. ltb (getD consumer i 0) p) (m + k) ≡ count (λ i. ltb (getD consumer i 0) p) m + k
+  high : (p n j : ℕ) → n ≤ w .m → j < n → getD (w .consumer) j 0 < p → j < count (λ i. ltb (getD (w .consumer) i 0) p) n
   unfolding count
-  beyond p zero g h = let e : m + 0 ≡ m = omega arith in rw e (omega arith)
-  beyond p (suc k) g h =
-      let e : m + suc k ≡ suc (m + k) = omega arith in
-      let f = beyond p k (omega arith) h in
-      let y : ltb (getD consumer (m + k) 0) p ≡ true = rw (a .rest (m + k) (omega arith) (omega arith)) (lt-ltb 0 p h) in
-      let b : bit (ltb (getD consumer (m + k) 0) p) ≡ 1 = ap bit y in
-      rw e (omega arith)
+  high p zero j h l b = absurd (omega arith)
+  high p (suc n) j h l b =
+      elim (decLt j n) [
+        | yes y ↦ let z = high p n j (omega arith) y b in omega arith
+        | no g ↦ let e : j ≡ n = omega arith in let here : bit (ltb (getD (w .consumer) n 0) p) ≡ 1 = ap bit (lt-ltb _ _ (rw e at b)) in let all = full n (omega arith) (λ i k. let o = ordered i n (omega arith) (omega arith) in let c = rw e at b in omega arith) in omega arith
+      ]
+    where
+      full : (k : ℕ) → k ≤ w .m → ((i : ℕ) → i < k → getD (w .consumer) i 0 < p) → count (λ i. ltb (getD (w .consumer) i 0) p) k ≡ k
+      full zero g f = refl
+      full (suc k) g f = let a = full k (omega arith) (λ i l. f i (omega arith)) in let z : bit (ltb (getD (w .consumer) k 0) p) ≡ 1 = ap bit (lt-ltb _ _ (f k (omega arith))) in omega arith
 
-  all-rows : (p rows : ℕ) → m ≤ rows → rows ≤ LINKS → 1 ≤ p → count (λ i. ltb (getD consumer i 0) p) rows ≡ count (λ i. ltb (getD consumer i 0) p) m + (rows - m)
-  all-rows p rows l g h = let e : m + (rows - m) ≡ rows = omega arith in rw e at (beyond p (rows - m) (omega arith) h)
+  -- the links from the first of p to the first of p + 1 are those of p
+  pub link-of : (p j : ℕ) → firstLink w p ≤ j → j < firstLink w (p + 1) → (j < w .m) × (getD (w .consumer) j 0 ≡ p)
+  unfolding firstLink
+  link-of p j a b =
+      let c = count-low (λ i. ltb (getD (w .consumer) i 0) (p + 1)) (w .m) in
+      let u = low (p + 1) (w .m) (omega arith) j b in
+      (omega arith, elim (decLt (getD (w .consumer) j 0) p) [ yes y ↦ let z = high p (w .m) j (omega arith) (omega arith) y in absurd (omega arith) | no g ↦ omega arith ])
 
-  none-below-0 : (rows : ℕ) → count (λ i. ltb (getD consumer i 0) 0) rows ≡ 0
-  unfolding count
-  none-below-0 zero = refl
-  none-below-0 (suc k) = let f = none-below-0 k in let b : bit (ltb (getD consumer k 0) 0) ≡ 0 = ap bit (le-ltb (getD consumer k 0) 0 (omega arith)) in omega arith
+  pub of-link : (p j : ℕ) → j < w .m → getD (w .consumer) j 0 ≡ p → (firstLink w p ≤ j) × (j < firstLink w (p + 1))
+  unfolding firstLink
+  of-link p j l e = (
+    elim (decLt j (count (λ i. ltb (getD (w .consumer) i 0) p) (w .m))) [ yes y ↦ let z = low p (w .m) (omega arith) j y in absurd (omega arith) | no g ↦ omega arith ],
+    high (p + 1) (w .m) j (omega arith) l (omega arith),
+  )
 
-  -- what is left of the rows counted when the unused ones are taken off
-  pub used-rows : (p rows : ℕ) → m ≤ rows → rows ≤ LINKS → count (λ i. ltb (getD consumer i 0) p) rows - (rows - m) ≡ count (λ i. ltb (getD consumer i 0) p) m
-  used-rows zero rows l g = let a = none-below-0 rows in let b = none-below-0 m in omega arith
-  used-rows (suc p) rows l g = let a = all-rows (suc p) rows l g (omega arith) in omega arith
+-- reading the index
+module _ (w : Wiring) where
+  pub first-at : (p : ℕ) → p < ROWS → getD (firstLinks w) p 0 ≡ firstLink w p
+  unfolding firstLinks
+  first-at p l = at-column (firstLink w) (ROWS + 1) p (omega arith)
 
-  -- before the first link of p there is none of p
-  pub none-before : (p j : ℕ) → j < count (λ i. ltb (getD consumer i 0) p) m → getD consumer j 0 ≡ p → ⊥
-  none-before p j l e = let z = low p m (omega arith) j l in omega arith
+  pub next-at : (p : ℕ) → p < ROWS → getD (firstLinks w) (p + 1) 0 ≡ firstLink w (p + 1)
+  unfolding firstLinks
+  next-at p l = at-column (firstLink w) (ROWS + 1) (p + 1) (omega arith)
+
+  pub first-rises : (p : ℕ) → firstLink w p ≤ firstLink w (p + 1)
+  unfolding firstLink count
+  first-rises p = count-rises (w .m)
+    where
+      count-rises : (m : ℕ) → count (λ i. ltb (getD (w .consumer) i 0) p) m ≤ count (λ i. ltb (getD (w .consumer) i 0) (p + 1)) m
+      count-rises zero = omega arith
+      count-rises (suc m) =
+          let h = count-rises m in
+          elim (decLt (getD (w .consumer) m 0) p) [
+            | yes y ↦ let a : bit (ltb (getD (w .consumer) m 0) (p + 1)) ≡ 1 = ap bit (lt-ltb (getD (w .consumer) m 0) (p + 1) (omega arith)) in let b = bit-low (ltb (getD (w .consumer) m 0) p) in omega arith
+            | no g ↦ let a : bit (ltb (getD (w .consumer) m 0) p) ≡ 0 = ap bit (le-ltb (getD (w .consumer) m 0) p (omega arith)) in omega arith
+          ]
+
+  pub first-low : (p : ℕ) → firstLink w p ≤ w .m
+  unfolding firstLink
+  first-low p = count-low _ (w .m)
+
+pub listed : {s : State} {first : List ℕ} → Indexed s first → Listed (s .wiring) first
+listed h = record { order = h .ready .rules .order; index = h .index }
+
+-- the index at a device
+module _ {w : Wiring} {first : List ℕ} (h : Listed w first) (p : ℕ) where
+  pub index-first : p < w .n → getD first p 0 ≡ firstLink w p
+  index-first l = let z = few-rows (h .order .devices) in rw (h .index) (first-at w p (omega arith))
+
+  pub index-next : p < w .n → getD first (p + 1) 0 ≡ firstLink w (p + 1)
+  index-next l = let z = few-rows (h .order .devices) in rw (h .index) (next-at w p (omega arith))
+
+  pub next-fits : firstLink w (p + 1) ≤ LINKS
+  next-fits = let a = first-low w (p + 1) in let b = h .order .links in omega arith

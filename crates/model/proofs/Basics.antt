@@ -10,7 +10,7 @@ use native.Mathlib.Decide.{ℕ-discrete, decLt}
 use lib.ListN.{length, getD, set, length-set}
 use lib.Seq.{getD-set-same, getD-set-other}
 use Rattle.model.specs.Limits.{DEVICES, ROWS, NONE}
-use Rattle.model.specs.Tests.{if_then_else_, _and_, _or_, any, first}
+use Rattle.model.specs.Logic.{if_then_else_, _and_, _or_, any, first}
 use Rattle.model.specs.Sound.{Column}
 
 -- ---- tests
@@ -37,6 +37,11 @@ pub or-cases : (x y : Bool) → x or y ≡ true → (x ≡ true) ⊎ (y ≡ true
 unfolding _or_
 or-cases true y e = inl refl
 or-cases false y e = inr e
+
+pub or-none : (x y : Bool) → x or y ≡ false → (x ≡ false) × (y ≡ false)
+unfolding _or_
+or-none true y e = never refl e
+or-none false y e = (refl, e)
 
 pub or-left : (x y : Bool) → x ≡ true → x or y ≡ true
 unfolding _or_

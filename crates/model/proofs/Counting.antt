@@ -11,7 +11,7 @@ use lib.Seq.{getD-set-other}
 use lib.Dec.{eqb, leb}
 use borrow.Author.Tests.{eq-eqb, ne-eqb, le-leb}
 use Rattle.model.specs.Limits.{ROWS, NONE}
-use Rattle.model.specs.Tests.{_and_, bit, count, tally, column}
+use Rattle.model.specs.Logic.{_and_, bit, count, tally, column}
 use Rattle.model.specs.Table.{Wiring}
 use Rattle.model.specs.State.{powered, isChild, isLive, childCount, linkCount, childrenOf, linkedOf}
 use Rattle.model.proofs.Basics.{and-of, at-set}

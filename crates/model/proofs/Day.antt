@@ -3,13 +3,13 @@ use mathlib.Core.Path.{_≡_, refl}
 use mathlib.Core.List.{List, [], _∷_, _++_, flatMap}
 use Prim.Native.Nat.{ℕ}
 use Rattle.model.specs.Limits.{DEVICES, LINKS, ROWS}
-use Rattle.model.specs.Tests.{if_then_else_, _and_, _or_, any, first, count, tally, column}
+use Rattle.model.specs.Logic.{if_then_else_, _and_, _or_, any, first, count, tally, column}
 use Rattle.model.specs.Table.{markGood, versionGood, limitsGood, lengthGood, parentGood, endsGood, before, deviceGood, linkFits, ascends, linkGood, badDevice, badLink, entriesAnswer, tableAnswer, cell, padded, wiringIn}
 use Rattle.model.specs.State.{isChild, isLive, childCount, linkCount, childrenOf, linkedOf, atRest, loaded, loadOf}
 use Rattle.model.specs.WakeSet.{marksChild, marksConsumer, belongs, sweep, wakeMarks, inWake, lowest}
-use Rattle.model.specs.Records.{bounds, allowed}
+use Rattle.model.specs.Records.{kinds, allowed, fault}
 use Rattle.model.specs.Requests.{enable, disable, get, put, suspendTest, askSuspend, idle, suspend, barred, othersBarred, askResume, wake, getWake, putIdle, running, parentDown, supplierDown, setActive, needed, setSuspended, ignoreChildren}
-use Rattle.model.specs.Steps.{idleResult, suspendResult, goOn, resumeResult, result, request, recordStep, byteStep, run, repliesIn}
+use Rattle.model.specs.Steps.{idleResult, suspendResult, goOn, resumeResult, result, request, resultStep, busy, recordStep, byteStep, run, repliesIn}
 use Rattle.model.specs.Day.{dayTable, Row, row, day, Claim, claims, given, expected, Hold}
 
 pub day-loads : loadOf dayTable .answer ≡ record { number = 0; index = 0 }
@@ -70,5 +70,5 @@ slips =
 
 -- ---- P1 to P14, and the slips
 pub worked : Hold (claims ++ slips)
-unfolding flatMap given expected claims slips dayTable day loadOf tableAnswer markGood versionGood limitsGood lengthGood parentGood endsGood before deviceGood linkFits ascends linkGood badDevice badLink entriesAnswer cell padded wiringIn atRest loaded DEVICES LINKS ROWS if_then_else_ _and_ _or_ any first count tally column isChild isLive childCount linkCount childrenOf linkedOf marksChild marksConsumer belongs sweep wakeMarks inWake lowest bounds allowed enable disable get put suspendTest askSuspend idle suspend barred othersBarred askResume wake getWake putIdle running parentDown supplierDown setActive needed setSuspended ignoreChildren idleResult suspendResult goOn resumeResult result request recordStep byteStep run repliesIn
+unfolding flatMap given expected claims slips dayTable day loadOf tableAnswer markGood versionGood limitsGood lengthGood parentGood endsGood before deviceGood linkFits ascends linkGood badDevice badLink entriesAnswer cell padded wiringIn atRest loaded DEVICES LINKS ROWS if_then_else_ _and_ _or_ any first count tally column isChild isLive childCount linkCount childrenOf linkedOf marksChild marksConsumer belongs sweep wakeMarks inWake lowest kinds allowed fault enable disable get put suspendTest askSuspend idle suspend barred othersBarred askResume wake getWake putIdle running parentDown supplierDown setActive needed setSuspended ignoreChildren idleResult suspendResult goOn resumeResult result request resultStep busy recordStep byteStep run repliesIn
 worked = refl

@@ -35,7 +35,7 @@ pub record Alone (s : State) (p : ℕ) : Type 0 where
 
 module _ (s : State) (k : KeptIn s) where
   pub room : s .wiring .n ≤ ROWS
-  room = few-rows (k .table .devices)
+  room = few-rows (k .table .order .devices)
 
   -- a row that is not zero is used
   pub row-used : {most : ℕ} (col : List ℕ) → Column ROWS (s .wiring .n) most col → (p : ℕ) → 1 ≤ getD col p 0 → p < s .wiring .n
@@ -51,7 +51,7 @@ module _ (s : State) (k : KeptIn s) where
         rests =
             λ a q h d.
             at-set (λ a x. 1 ≤ x → (q : ℕ) → Needs (s .wiring) a q → 2 ≤ getD (set (s .devices .status) p v) q 0) (s .devices .status) p v (status-row p hp)
-            (λ h q d. rw (getD-set-other (s .devices .status) p q v 0 (apart (k .table) hp d)) (up h q d))
+            (λ h q d. rw (getD-set-other (s .devices .status) p q v 0 (apart (k .table .order) hp d)) (up h q d))
             (λ a ne h q d. at-set (λ q x. Needs (s .wiring) a q → 2 ≤ x) (s .devices .status) p v (status-row p hp) (λ d. here a ne h d) (λ q ne d. k .supply .rests a q h d) q d)
             a h q d;
       }
@@ -77,8 +77,18 @@ module _ (s : State) (k : KeptIn s) where
   unfolding childrenOf childCount isChild linkedOf linkCount isLive
   kept-ignore p v hp hv u =
       let t = k .table in
+      let o = t .order in
       record {
-        table = record { some = t .some; devices = t .devices; links = t .links; parentRows = t .parentRows; ignoreRows = column-set (t .ignoreRows) room p v hp hv; consumerRows = t .consumerRows; supplierRows = t .supplierRows; flagRows = t .flagRows; parents = t .parents; consumers = t .consumers; suppliers = t .suppliers; ascending = t .ascending };
+        table =
+            record {
+              some = t .some;
+              order = record { devices = o .devices; links = o .links; parents = o .parents; consumers = o .consumers; suppliers = o .suppliers; ascending = o .ascending };
+              parentRows = t .parentRows;
+              ignoreRows = column-set (t .ignoreRows) room p v hp hv;
+              consumerRows = t .consumerRows;
+              supplierRows = t .supplierRows;
+              flagRows = t .flagRows;
+            };
         statuses = k .statuses;
         holds = k .holds;
         depths = k .depths;

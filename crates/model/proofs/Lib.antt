@@ -1,6 +1,6 @@
 -- The laws of the definitions.
 pub mod Basics
-pub mod Tests
+pub mod Logic
 pub mod Counting
 pub mod WakeSet
 pub mod Keeping
@@ -18,3 +18,6 @@ pub mod Loading
 pub mod Pieces
 pub mod Questions
 pub mod Day
+pub mod Chains
+pub mod Loops
+pub mod Tallies

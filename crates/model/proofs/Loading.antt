@@ -12,13 +12,13 @@ use lib.ListN.{length, getD, replicate, length-replicate, List·getD-eq-default}
 use lib.Dec.{ltb, leb, eqb}
 use borrow.Author.Tests.{ltb-true, ltb-false, leb-true, eqb-true, eq-eqb, ne-eqb, lt-ltb, le-ltb, not-true, not-false}
 use Rattle.model.specs.Limits.{DEVICES, LINKS, ROWS, NONE}
-use Rattle.model.specs.Tests.{if_then_else_, _and_, _or_, bit, first, column}
+use Rattle.model.specs.Logic.{if_then_else_, _and_, _or_, bit, first, column}
 use Rattle.model.specs.Table.{Wiring, TableAnswer, devicesIn, linksIn, deviceByte, linkByte, limitsGood, parentGood, endsGood, before, deviceGood, linkFits, ascends, linkGood, badDevice, badLink, entriesAnswer, tableAnswer, cell, padded, wiringIn}
 use Rattle.model.specs.State.{State, holdsAt, isChild, isLive, childCount, linkCount, childrenOf, linkedOf, atRest, loaded, emptyState, loadOf}
-use Rattle.model.specs.Sound.{Column, TableRules, noneOpen, Sound}
+use Rattle.model.specs.Sound.{Column, Ordered, TableRules, noneOpen, Sound}
 use Rattle.model.specs.SoundTest.{tableTest, keptTest, soundTest}
 use Rattle.model.proofs.Basics.{by-if, never, and-parts, or-cases, first-least, few-rows, few-devices}
-use Rattle.model.proofs.Tests.{tests}
+use Rattle.model.proofs.Logic.{tests}
 use Rattle.model.proofs.Counting.{at-column, length-column, column-zero, tally-none}
 use Rattle.model.proofs.Running.{nothing-carried}
 
@@ -55,7 +55,7 @@ loaded-sound w t =
             table = t;
             statuses = zero-column ROWS (w .n) 3;
             holds = zero-column ROWS (w .n) 32767;
-            depths = padded-column (λ p. 1) (w .n) ROWS 255 (few-rows (t .devices)) (λ p l. omega arith);
+            depths = padded-column (λ p. 1) (w .n) ROWS 255 (few-rows (t .order .devices)) (λ p l. omega arith);
             errors = zero-column ROWS (w .n) 4095;
             children = sym (column-zero _ ROWS (λ q. tally-none _ _ (w .n) q (λ k. rw (zeros ROWS k))));
             linked = sym (column-zero _ ROWS (λ q. tally-none _ _ (w .m) q (λ k. rw (zeros ROWS (getD (w .consumer) k 0)))));
@@ -121,17 +121,24 @@ module _ (t : List ℕ) (l : limitsGood t ≡ true) (ds : (p : ℕ) → p < devi
       let links = limits .1 .1 in
       record {
         some = limits .0;
-        devices = limits .1 .0;
-        links = links;
+        order =
+            record {
+              devices = limits .1 .0;
+              links = links;
+              parents = λ p h. rw (device-at 0 p h) (device-facts t p (ds p h) .0);
+              consumers = λ i h. rw (link-at 0 i h) (fact i h .consumer);
+              suppliers = λ i h. rw (link-at 1 i h, link-at 0 i h) (fact i h .supplier);
+              ascending =
+                  λ i h.
+                  let z : i + 1 < linksIn t = omega arith in
+                  rw (link-at 0 i (omega arith), link-at 1 i (omega arith), link-at 0 (i + 1) z, link-at 1 (i + 1) z)
+                  (next-ascends t i (fact (i + 1) z .ascend));
+            };
         parentRows = padded-column _ _ _ 255 rows parent-low;
         ignoreRows = padded-column _ _ _ 1 rows (λ p h. device-facts t p (ds p h) .1);
         consumerRows = padded-column _ _ _ 255 links (λ i h. let z = fact i h .consumer in omega arith);
         supplierRows = padded-column _ _ _ 255 links (λ i h. let z = fact i h .consumer in let y = fact i h .supplier in omega arith);
         flagRows = padded-column _ _ _ 3 links (λ i h. fact i h .flags);
-        parents = λ p h. rw (device-at 0 p h) (device-facts t p (ds p h) .0);
-        consumers = λ i h. rw (link-at 0 i h) (fact i h .consumer);
-        suppliers = λ i h. rw (link-at 1 i h, link-at 0 i h) (fact i h .supplier);
-        ascending = λ i h. let z : i + 1 < linksIn t = omega arith in rw (link-at 0 i (omega arith), link-at 1 i (omega arith), link-at 0 (i + 1) z, link-at 1 (i + 1) z) (next-ascends t i (fact (i + 1) z .ascend));
       }
 
 taken-rules : (t : List ℕ) → tableAnswer t .number ≡ 0 → TableRules (wiringIn t)
@@ -190,7 +197,7 @@ before-differs : (a b a' b' : ℕ) → before a a' b b' ≡ true → a ≡ b →
 unfolding before
 before-differs a b a' b' e f g = let z = (simp tests at e) (omega arith) in omega arith
 
-module _ (w : Wiring) (r : TableRules w) where
+module _ (w : Wiring) (r : Ordered w) where
   ordered : (i j : ℕ) → i < j → j < w .m → before (getD (w .consumer) i 0) (getD (w .supplier) i 0) (getD (w .consumer) j 0) (getD (w .supplier) j 0) ≡ true
   ordered i zero l h = absurd (omega arith)
   ordered i (suc j) l h =

@@ -9,7 +9,7 @@ use lib.Seq.{take-at, drop-at}
 use lib.Dec.{eqb}
 use borrow.Author.Tests.{ltb-false, eqb-true}
 use Rattle.model.specs.Limits.{ROWS}
-use Rattle.model.specs.Tests.{if_then_else_}
+use Rattle.model.specs.Logic.{if_then_else_}
 use Rattle.model.specs.State.{State, holdsAt, usage, linkCount, loadOf}
 use Rattle.model.specs.Records.{replyBytes}
 use Rattle.model.specs.Steps.{Exchange, run, repliesIn}
@@ -24,12 +24,12 @@ use Rattle.model.proofs.Running.{run-sound, replies-many, rest-waits, r
 use Rattle.model.proofs.Loading.{load-sound, load-holds, load-carry}
 
 -- ---- replies as bytes
-log-replies : (es : List Exchange) → length (repliesIn es) ≡ 4 * length es
+pub log-replies : (es : List Exchange) → length (repliesIn es) ≡ 4 * length es
 unfolding repliesIn
 log-replies [] = refl
 log-replies (e ∷ es) = let i = log-replies es in omega arith
 
-log-joined : (a b : List Exchange) → repliesIn (a ++ b) ≡ repliesIn a ++ repliesIn b
+pub log-joined : (a b : List Exchange) → repliesIn (a ++ b) ≡ repliesIn a ++ repliesIn b
 unfolding repliesIn
 log-joined [] b = refl
 log-joined (e ∷ a) b = ap (λ (l : List ℕ). replyBytes (e .reply) ++ l) (log-joined a b)

@@ -9,10 +9,10 @@ use lib.ListN.{getD}
 use lib.Dec.{eqb}
 use borrow.Author.Tests.{eqb-false, eq-eqb, ne-eqb}
 use Rattle.model.specs.Limits.{NONE}
-use Rattle.model.specs.Tests.{if_then_else_}
+use Rattle.model.specs.Logic.{if_then_else_}
 use Rattle.model.specs.State.{State}
 use Rattle.model.specs.Questions.{climb, parentsAbove}
-use Rattle.model.specs.Sound.{TableRules}
+use Rattle.model.specs.Sound.{Ordered}
 
 -- the parents of the devices up to p are lower than their children
 abbrev pub Rising : List ℕ → ℕ → Type 0
@@ -46,7 +46,7 @@ module _ (parent : List ℕ) where
   climb-one (suc p) r l h = rw (ne-eqb (getD parent (suc p) 0) NONE (λ e. omega arith)) (ap suc (climb-enough p (getD parent (suc p) 0) (getD parent (suc p) 0) (λ q b. r q (omega arith)) (omega arith) (omega arith)))
 
 -- no parent: none above; else one more than above the parent
-pub above-step : (s : State) → TableRules (s .wiring) → (p : ℕ) → p < s .wiring .n → parentsAbove s p ≡ (if eqb (getD (s .wiring .parent) p 0) NONE then 0 else suc (parentsAbove s (getD (s .wiring .parent) p 0)))
+pub above-step : (s : State) → Ordered (s .wiring) → (p : ℕ) → p < s .wiring .n → parentsAbove s p ≡ (if eqb (getD (s .wiring .parent) p 0) NONE then 0 else suc (parentsAbove s (getD (s .wiring .parent) p 0)))
 unfolding parentsAbove climb if_then_else_
 above-step s r zero h = rw (eq-eqb _ _ (no-parent (s .wiring .parent) 0 (λ q l. r .parents q (omega arith)) (omega arith)))
 above-step s r (suc p) h =

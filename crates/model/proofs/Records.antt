@@ -5,15 +5,15 @@ use Prim.Native.Nat.{ℕ, _<_, _≤_}
 use native.Mathlib.Omega.{arith}
 use lib.Dec.{eqb}
 use borrow.Author.Tests.{eq-eqb, ne-eqb}
-use Rattle.model.specs.Tests.{if_then_else_}
+use Rattle.model.specs.Logic.{if_then_else_}
 use Rattle.model.specs.State.{State}
-use Rattle.model.specs.Records.{Rec, allowed}
+use Rattle.model.specs.Records.{Rec, RESULT, allowed}
 use Rattle.model.specs.Requests.{getWake, putIdle}
 use Rattle.model.specs.Steps.{result, recordStep}
 use Rattle.model.specs.Sound.{CallbackRules, noneOpen, suspendOpen, resumeOpen, idleOpen, Sound}
 use Rattle.model.proofs.Basics.{by-if}
 use Rattle.model.proofs.Steps.{Kinds, by-kind, by-record}
-use Rattle.model.proofs.Values.{value-low, error-small}
+use Rattle.model.proofs.Values.{flag-low, error-small}
 use Rattle.model.proofs.Holding.{Good, more-held, less-held, enable-good, disable-good, get-good, put-good}
 use Rattle.model.proofs.Suspending.{idle-good, suspend-good, idleResult-good, suspendResult-good}
 use Rattle.model.proofs.Resuming.{wake-good, resumeResult-good}
@@ -29,8 +29,8 @@ module _ {s : State} (h : Sound s) (o : s .callback .kind ≡ 0) (p : ℕ) (l : 
   unfolding putIdle
   putIdle-good = by-if Good _ _ _ (λ e. h) (λ e. idle-good (less-held h o p l) o p l)
 
-  kinds-good : (v : ℕ) → v ≤ 1 → Kinds (λ kind. Good) s p v
-  kinds-good v b =
+  kinds-good : (v : ℕ) → Kinds (λ kind. Good) s p v
+  kinds-good v =
       record {
         enables = enable-good h o p l;
         disables = disable-good h o p l;
@@ -43,11 +43,11 @@ module _ {s : State} (h : Sound s) (o : s .callback .kind ≡ 0) (p : ℕ) (l : 
         wakes = wake-good h o p l;
         setActives = setActive-good h o p l;
         setSuspendeds = setSuspended-good h o p l;
-        ignores = ignoreChildren-good h o p l v b;
+        ignores = λ a. ignoreChildren-good h o p l v (flag-low v a);
       }
 
 -- ---- kind 13
-result-good : {s : State} → Sound s → (v : ℕ) → allowed 13 v ≡ true → (s .callback .kind ≡ 0 → ⊥) → Good (result s (s .callback .asked) v)
+result-good : {s : State} → Sound s → (v : ℕ) → allowed RESULT v ≡ true → (s .callback .kind ≡ 0 → ⊥) → Good (result s (s .callback .asked) v)
 unfolding result if_then_else_
 result-good {s} h v a ne = go (h .callback)
   where
@@ -65,5 +65,5 @@ record-sound {s} h r =
       refuses = λ number. h;
       results = λ k a o q. rw q (result-good h (r .value) a o);
       busy = h;
-      requests = λ low high l a o. by-kind (λ kind. Good) (kinds-good h o (r .device) l (r .value) (value-low (r .kind) (r .value) high a)) (r .kind) low high;
+      requests = λ f ne o. by-kind (λ kind. Good) (kinds-good h o (r .device) (f .known) (r .value)) (r .kind) (f .low) (f .high) ne (f .fits);
     })

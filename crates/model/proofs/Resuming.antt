@@ -15,7 +15,7 @@ use Rattle.model.specs.Requests.{barred, othersBarred, askResume, wake}
 use Rattle.model.specs.Steps.{goOn, resumeResult}
 use Rattle.model.specs.Sound.{Carried, Steady, ResumeOpen, resumeOpen, Sound}
 use Rattle.model.proofs.Basics.{by-if, at-set}
-use Rattle.model.proofs.Tests.{tests}
+use Rattle.model.proofs.Logic.{tests}
 use Rattle.model.proofs.WakeSet.{member-below, member-asleep, fewer, lowest-rests, wake-iff, first-lowest, first-is}
 use Rattle.model.proofs.Keeping.{KeptIn, status-row, kept-status, kept-error, none-open, quiet, closing}
 use Rattle.model.proofs.Holding.{Good}
@@ -29,14 +29,14 @@ Clear s t = (q : ℕ) → InWake (s .wiring) (s .devices .status) t q → (error
 askResume-good : (s : State) → KeptIn s → Carried (s .carry) → ((q : ℕ) → Steady (statusAt s q)) → (t : ℕ) → t < s .wiring .n → lowest s t < s .wiring .n → Clear s t → Good (askResume s t)
 unfolding askResume
 askResume-good s k c st t l some clear =
-    let m = first-lowest s (k .table) t l some in
+    let m = first-lowest s (k .table .order) t l some in
     let x = lowest s t in
     let off = member-asleep (m .member) in
     let row = status-row s k x some in
     let back : (q : ℕ) → Sleeping (set (s .devices .status) x RESUMING) q → Sleeping (s .devices .status) q = at-set (λ q v. v < 2 → Sleeping (s .devices .status) q) (s .devices .status) x RESUMING row (λ z. off) (λ q ne z. z) in
     let into : (q : ℕ) → Sleeping (s .devices .status) q → Sleeping (set (s .devices .status) x RESUMING) q = at-set (λ q v. Sleeping (s .devices .status) q → v < 2) (s .devices .status) x RESUMING row (λ z. omega arith) (λ q ne z. z) in
     record {
-      kept = kept-status s k x RESUMING some (omega arith) (λ z. lowest-rests (k .table) l m) (λ z y. absurd (omega arith));
+      kept = kept-status s k x RESUMING some (omega arith) (λ z. lowest-rests (k .table .order) l m) (λ z y. absurd (omega arith));
       carried = c;
       callback =
           resumeOpen
@@ -67,7 +67,7 @@ module _ {s : State} (h : Sound s) (o : s .callback .kind ≡ 0) (p : ℕ) (l : 
       some a =
           let z = steady p in
           let x = h .kept .statuses .used p l in
-          first-is s (h .kept .table) p l p (self (omega (arith, eqb-false)))
+          first-is s (h .kept .table .order) p l p (self (omega (arith, eqb-false)))
 
       clear : ltb 0 (errorAt s p) ≡ false → ltb 0 (depthAt s p) ≡ false → othersBarred s p ≡ false → Clear s p
       clear e d b q i =
@@ -75,12 +75,12 @@ module _ {s : State} (h : Sound s) (o : s .callback .kind ≡ 0) (p : ℕ) (l : 
             | yes y ↦ rw y (omega (arith, ltb-false), omega (arith, ltb-false))
             | no ne ↦
                 let f = simp tests at b in
-                let z = f q (member-below (h .kept .table) l i) (wake-iff s (h .kept .table) p l q .1 i) ne in
+                let z = f q (member-below (h .kept .table .order) l i) (wake-iff s (h .kept .table .order) p l q .1 i) ne in
                 (omega arith, omega arith)
           ]
 
 module _ {s : State} (h : Sound s) (v : ℕ) where
-  pub resumeResult-good : (eqb v 0 ≡ false → minus v ≤ MAXERROR) → ResumeOpen s → Good (resumeResult s (s .callback .asked) v)
+  pub resumeResult-good : (eqb v 0 ≡ false → minus v ≤ MAXERROR) → ResumeOpen s → Good (resumeResult s (s .callback .asked) (s .callback .target) v)
   unfolding resumeResult goOn
   resumeResult-good small o =
       let p = s .callback .asked in
@@ -91,7 +91,7 @@ module _ {s : State} (h : Sound s) (v : ℕ) where
       (λ e. quiet _ (kept-error (closed (withStatus s p SUSPENDED)) (asleep .kept) p _ low (small e)) (h .carried) (none-open (asleep .callback) refl))
     where
       low : s .callback .asked < s .wiring .n
-      low = member-below (h .kept .table) (o .target) (o .asked .member)
+      low = member-below (h .kept .table .order) (o .target) (o .asked .member)
 
       woken : Sound (closed (withStatus s (s .callback .asked) ACTIVE))
       woken = closing (withStatus s (s .callback .asked) ACTIVE) (kept-status s (h .kept) (s .callback .asked) ACTIVE low (omega arith) (λ z q. h .kept .supply .rests (s .callback .asked) q (let y = o .status in omega arith)) (λ z. absurd (omega arith))) (h .carried) (turned h v (o .steady) low ACTIVE (omega arith))

@@ -10,7 +10,7 @@ use lib.ListN.{length, getD, set, length-set, length-append, replicate}
 use lib.Seq.{getD-set-same, getD-set-other}
 use lib.Dec.{ltb, leb, eqb}
 use borrow.Author.Tests.{ltb-true, ltb-false, eqb-true, eqb-false, eq-eqb, ne-eqb}
-use Rattle.model.specs.Tests.{if_then_else_, _and_, _or_, bit}
+use Rattle.model.specs.Logic.{if_then_else_, _and_, _or_, bit}
 use Rattle.model.specs.State.{State, Carry, holdsAt, withHolds, withCarry}
 use Rattle.model.specs.Records.{Rec, Reply, Done, finished}
 use Rattle.model.specs.Requests.{get, put, suspendTest, idle, askResume, wake, getWake, putIdle}
@@ -18,7 +18,7 @@ use Rattle.model.specs.Steps.{Exchange, Run, fourth, noneWait, recordSte
 use Rattle.model.specs.Sound.{Carried, Sound}
 use Rattle.model.specs.Demand3.{isGet, isPut, effective, counted}
 use Rattle.model.proofs.Basics.{by-if, at-set}
-use Rattle.model.proofs.Tests.{tests}
+use Rattle.model.proofs.Logic.{tests}
 use Rattle.model.proofs.Keeping.{KeptIn, room, callback-carry}
 use Rattle.model.proofs.Steps.{by-kind, by-record}
 use Rattle.model.proofs.Setters.{Stable, but-holds, on-idle, on-wake, on-result, carry-kept}
@@ -188,7 +188,10 @@ moves-record {s} h r =
       refuses = λ number. idle-reply p _ _ _ refl refl;
       results = λ k a o q. rw k (plain p _ (on-result (Same s) (same-stable s) refl p (r .value)));
       busy = idle-reply p _ _ _ refl refl;
-      requests = λ low high l a o. by-kind (λ kind. Moves s p (isGet kind) (isPut kind)) (but-holds (Same s) (same-stable s) refl p (r .value) _ (others h p l) (moves-get h p l) (moves-getWake h p l) (moves-put h p l) (moves-putIdle h p l)) (r .kind) low high;
+      requests =
+          λ f ne o.
+          let l = f .known in
+          by-kind (λ kind. Moves s p (isGet kind) (isPut kind)) (but-holds (Same s) (same-stable s) refl p (r .value) _ (others h p l) (moves-get h p l) (moves-getWake h p l) (moves-put h p l) (moves-putIdle h p l)) (r .kind) (f .low) (f .high) ne (f .fits);
     })
 
 -- ---- holds over a run: holds and counted puts are the holds at the start and counted gets

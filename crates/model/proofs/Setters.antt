@@ -78,7 +78,7 @@ module _ (P : State → Type 0) (c : Stable P) where
           wakes = f 9 (inr (omega arith)) _ on-wake;
           setActives = f 10 (inr (omega arith)) _ on-active;
           setSuspendeds = f 11 (inr (omega arith)) _ on-suspended;
-          ignores = f 12 (inr (omega arith)) _ (on-ignore v);
+          ignores = λ a. f 12 (inr (omega arith)) _ (on-ignore v);
         }
 
   -- the callback closed after a status
@@ -102,7 +102,7 @@ module _ (P : State → Type 0) (c : Stable P) where
         but-holds h p v (λ kind. On) (λ kind z d g. g) (by-if On _ _ _ (λ e. h) (λ e. holds s _ _ h)) (by-if On _ _ _ (λ e. h) (λ e. on-wake (holds s _ _ h) p)) (by-if On _ _ _ (λ e. h) (λ e. holds s _ _ h)) (by-if On _ _ _ (λ e. h) (λ e. on-idle (holds s _ _ h) p))
 
     pub step-keeps : (r : Rec) → P (recordStep s r .state)
-    step-keeps r = by-record On (record { refuses = λ number. h; results = λ k a o q. on-result h (r .device) (r .value); busy = h; requests = λ low high l a o. by-kind (λ kind. On) (kinds-keep (r .device) (r .value)) (r .kind) low high })
+    step-keeps r = by-record On (record { refuses = λ number. h; results = λ k a o q. on-result h (r .device) (r .value); busy = h; requests = λ f ne o. by-kind (λ kind. On) (kinds-keep (r .device) (r .value)) (r .kind) (f .low) (f .high) ne (f .fits) })
 
 -- no record touches the carried bytes
 pub carry-kept : (s : State) (r : Rec) → recordStep s r .state .carry ≡ s .carry

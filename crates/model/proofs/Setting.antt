@@ -9,13 +9,13 @@ use lib.ListN.{length, getD, set}
 use lib.Seq.{getD-set-same, getD-set-other}
 use lib.Dec.{ltb, eqb}
 use borrow.Author.Tests.{ltb-false}
-use Rattle.model.specs.Tests.{if_then_else_, _and_, _or_}
+use Rattle.model.specs.Logic.{if_then_else_, _and_, _or_}
 use Rattle.model.specs.State.{State, SUSPENDED, RESUMING, ACTIVE, statusAt, childrenAt, withStatus, withIgnore}
 use Rattle.model.specs.WakeSet.{Needs, child, link}
 use Rattle.model.specs.Requests.{parentDown, supplierDown, setActive, needed, setSuspended, ignoreChildren}
 use Rattle.model.specs.Sound.{Steady, NoneOpen, Sound}
 use Rattle.model.proofs.Basics.{by-if, at-set}
-use Rattle.model.proofs.Tests.{tests, or-fails}
+use Rattle.model.proofs.Logic.{tests, or-fails}
 use Rattle.model.proofs.Counting.{child-counted}
 use Rattle.model.proofs.Keeping.{Fed, Alone, room, row-used, status-row, kept-status, kept-error, kept-ignore, alone-free, none-open, quiet}
 use Rattle.model.proofs.Holding.{Good}

@@ -11,15 +11,15 @@ use lib.Seq.{ext-getD}
 use lib.Dec.{ltb, leb, eqb}
 use borrow.Author.Tests.{eqb-true, eq-eqb, ne-eqb}
 use Rattle.model.specs.Limits.{DEVICES, LINKS, ROWS, MAXHOLDS, MAXDEPTH, MAXERROR}
-use Rattle.model.specs.Tests.{if_then_else_, _and_, _or_, _implies_, all}
+use Rattle.model.specs.Logic.{if_then_else_, _and_, _or_, _implies_, all}
 use Rattle.model.specs.Table.{Wiring, parentGood, endsGood}
-use Rattle.model.specs.State.{State, Carry, SUSPENDING, statusAt, errorAt, depthAt, childrenOf, linkedOf}
+use Rattle.model.specs.State.{State, Devices, Carry, SUSPENDED, SUSPENDING, statusAt, errorAt, depthAt, childrenOf, linkedOf}
 use Rattle.model.specs.WakeSet.{Needs, child, link, InWake, Lowest, inWake, lowest}
 use Rattle.model.specs.Requests.{barred}
-use Rattle.model.specs.Sound.{Column, TableRules, Supply, Kept, Carried, Steady, OthersSteady, CallbackRules, noneOpen, suspendOpen, resumeOpen, idleOpen, Sound}
+use Rattle.model.specs.Sound.{Column, Ordered, TableRules, Supply, Kept, Carried, Steady, OthersSteady, CallbackRules, noneOpen, suspendOpen, resumeOpen, idleOpen, Sound}
 use Rattle.model.specs.SoundTest.{columnTest, tableTest, sameTest, parentSupplies, linkSupplies, supplyTest, keptTest, carriedTest, steadyTest, allSteady, othersSteady, membersClear, noneTest, suspendOpenTest, resumeOpenTest, idleOpenTest, callbackTest, soundTest}
-use Rattle.model.proofs.Basics.{by-if, never, few-rows}
-use Rattle.model.proofs.Tests.{tests}
+use Rattle.model.proofs.Basics.{by-if, never, few-rows, and-parts}
+use Rattle.model.proofs.Logic.{tests}
 use Rattle.model.proofs.Counting.{long-children, long-linked}
 use Rattle.model.proofs.WakeSet.{member-below, lowest-unique, wake-iff, first-lowest, first-is}
 use Rattle.model.proofs.Keeping.{KeptIn, row-used}
@@ -58,6 +58,26 @@ unfolding sameTest
 same-iff a b g h = (λ e. let f = simp tests at e in ext-getD 0 a b (g ∙ sym h) (λ i l. f i (omega arith)), λ e. simp tests (λ i l. rw e))
 
 -- ---- the table, the supply rule, the ranges and counts, the carried bytes
+-- what a test that passes says of any columns, of their rows or not: devices and links are in order, and an unused device is suspended
+table-ordered : (w : Wiring) → tableTest w ≡ true → Ordered w
+unfolding tableTest parentGood endsGood
+table-ordered w e =
+    let (some, e1) = simp tests at e in
+    let (devices, e2) = e1 in
+    let (links, e3) = e2 in
+    let (up, e4) = e3 .1 .1 .1 .1 .1 in
+    let (ends, so) = e4 in
+    record { devices = devices; links = links; parents = up; consumers = λ i l. ends i l .0; suppliers = λ i l. ends i l .1; ascending = so }
+
+module _ (w : Wiring) (d : Devices) (e : keptTest w d ≡ true) where
+  pub kept-ordered : Ordered w
+  unfolding keptTest
+  kept-ordered = let z = and-parts _ _ e in table-ordered w (z .0)
+
+  pub kept-unused : (p : ℕ) → w .n ≤ p → p < ROWS → getD (d .status) p 0 ≡ SUSPENDED
+  unfolding keptTest columnTest
+  kept-unused p h l = let z = and-parts _ _ (and-parts _ _ e .1) in let f = simp tests at (z .0) in f p l .1 h
+
 module _ (s : State) (g : Shaped s) where
   table-iff : (tableTest (s .wiring) ≡ true) ↔ TableRules (s .wiring)
   unfolding tableTest parentGood endsGood
@@ -70,28 +90,21 @@ module _ (s : State) (g : Shaped s) where
         let (ig, e5) = e4 in
         let (co, e6) = e5 in
         let (su, e7) = e6 in
-        let (fl, e8) = e7 in
-        let (up, e9) = e8 in
-        let (li, so) = e9 in
         record {
           some = some;
-          devices = devices;
-          links = links;
+          order = table-ordered (s .wiring) e;
           parentRows = column-iff ROWS _ 255 _ (few-rows devices) (g .parent) .0 pa;
           ignoreRows = column-iff ROWS _ 1 _ (few-rows devices) (g .ignore) .0 ig;
           consumerRows = column-iff LINKS _ 255 _ links (g .consumer) .0 co;
           supplierRows = column-iff LINKS _ 255 _ links (g .supplier) .0 su;
-          flagRows = column-iff LINKS _ 3 _ links (g .flags) .0 fl;
-          parents = up;
-          consumers = λ i l. li i l .0;
-          suppliers = λ i l. li i l .1;
-          ascending = so;
+          flagRows = column-iff LINKS _ 3 _ links (g .flags) .0 (e7 .0);
         },
     λ t.
-        let hn = few-rows (t .devices) in
-        let hm = t .links in
+        let o = t .order in
+        let hn = few-rows (o .devices) in
+        let hm = o .links in
         simp tests
-        (t .some, (t .devices, (t .links, (column-iff _ _ _ _ hn (g .parent) .1 (t .parentRows), (column-iff _ _ _ _ hn (g .ignore) .1 (t .ignoreRows), (column-iff _ _ _ _ hm (g .consumer) .1 (t .consumerRows), (column-iff _ _ _ _ hm (g .supplier) .1 (t .supplierRows), (column-iff _ _ _ _ hm (g .flags) .1 (t .flagRows), (t .parents, (λ i l. (t .consumers i l, t .suppliers i l), t .ascending)))))))))),
+        (t .some, (o .devices, (o .links, (column-iff _ _ _ _ hn (g .parent) .1 (t .parentRows), (column-iff _ _ _ _ hn (g .ignore) .1 (t .ignoreRows), (column-iff _ _ _ _ hm (g .consumer) .1 (t .consumerRows), (column-iff _ _ _ _ hm (g .supplier) .1 (t .supplierRows), (column-iff _ _ _ _ hm (g .flags) .1 (t .flagRows), (o .parents, (λ i l. (o .consumers i l, o .suppliers i l), o .ascending)))))))))),
   )
 
 supply-iff : (w : Wiring) (status : List ℕ) → ((p : ℕ) → 1 ≤ getD status p 0 → p < w .n) → (supplyTest w status ≡ true) ↔ Supply w status
@@ -111,7 +124,7 @@ used : {most : ℕ} (n : ℕ) (col : List ℕ) → Column ROWS n most col → (p
 used n col c p h = elim (decLt p n) [ yes l ↦ l | no g ↦ let z = c .unused p (omega arith) in absurd (omega arith) ]
 
 module _ (s : State) (g : Shaped s) where
-  kept-iff : (keptTest (s .wiring) (s .devices) ≡ true) ↔ KeptIn s
+  pub kept-iff : (keptTest (s .wiring) (s .devices) ≡ true) ↔ KeptIn s
   unfolding keptTest
   kept-iff = (
     λ e.
@@ -123,7 +136,7 @@ module _ (s : State) (g : Shaped s) where
         let (ch, e6) = e5 in
         let (li, su) = e6 in
         let t = table-iff s g .0 ta in
-        let hn = few-rows (t .devices) in
+        let hn = few-rows (t .order .devices) in
         let sts = column-iff ROWS (s .wiring .n) SUSPENDING (s .devices .status) hn (g .status) .0 st in
         record {
           table = t;
@@ -136,7 +149,7 @@ module _ (s : State) (g : Shaped s) where
           supply = supply-iff (s .wiring) (s .devices .status) (used (s .wiring .n) (s .devices .status) sts) .0 su;
         },
     λ k.
-        let hn = few-rows (k .table .devices) in
+        let hn = few-rows (k .table .order .devices) in
         simp tests
         (table-iff s g .1 (k .table), (column-iff _ _ _ _ hn (g .status) .1 (k .statuses), (column-iff _ _ _ _ hn (g .holds) .1 (k .holds), (column-iff _ _ _ _ hn (g .depth) .1 (k .depths), (column-iff _ _ _ _ hn (g .error) .1 (k .errors), (same-iff _ _ (g .children) (long-children _ _) .1 (k .children), (same-iff _ _ (g .linked) (long-linked _ _) .1 (k .linked), supply-iff (s .wiring) (s .devices .status) (used (s .wiring .n) (s .devices .status) (k .statuses)) .1 (k .supply)))))))),
   )
@@ -171,14 +184,14 @@ module _ (s : State) (k : KeptIn s) where
   clear-iff : (t : ℕ) → t < s .wiring .n → (membersClear s t ≡ true) ↔ ((q : ℕ) → InWake (s .wiring) (s .devices .status) t q → (errorAt s q ≡ 0) × (depthAt s q ≡ 0))
   unfolding membersClear barred
   clear-iff t l = (
-    λ e q i. let f = simp tests at e in let z = f q (member-below (k .table) l i) (wake-iff s (k .table) t l q .1 i) in (omega arith, omega arith),
-    λ c. simp tests (λ i b m. let z = c i (wake-iff s (k .table) t l i .0 m) in (omega arith, omega arith)),
+    λ e q i. let f = simp tests at e in let z = f q (member-below (k .table .order) l i) (wake-iff s (k .table .order) t l q .1 i) in (omega arith, omega arith),
+    λ c. simp tests (λ i b m. let z = c i (wake-iff s (k .table .order) t l i .0 m) in (omega arith, omega arith)),
   )
 
   lowest-iff : (t a : ℕ) → t < s .wiring .n → a < s .wiring .n → (lowest s t ≡ a) ↔ Lowest (s .wiring) (s .devices .status) t a
   lowest-iff t a l b = (
-    λ e. rw e at (first-lowest s (k .table) t l (omega (arith, e))),
-    λ m. lowest-unique (first-lowest s (k .table) t l (first-is s (k .table) t l a (m .member))) m,
+    λ e. rw e at (first-lowest s (k .table .order) t l (omega (arith, e))),
+    λ m. lowest-unique (first-lowest s (k .table .order) t l (first-is s (k .table .order) t l a (m .member))) m,
   )
 
   test-callback : callbackTest s ≡ true → CallbackRules s

@@ -1,17 +1,19 @@
 -- What holds of each case of a record holds of every record. Assumes nothing.
-use mathlib.Core.Path.{_≡_}
+use mathlib.Core.Path.{_≡_, refl}
 use mathlib.Core.Bool.{Bool, true, false, not}
 use Prim.Native.Nat.{ℕ, suc, _<_, _≤_}
 use native.Mathlib.Omega.{arith}
+use native.Mathlib.Decide.{ℕ-discrete}
 use lib.Dec.{leb, eqb}
-use borrow.Author.Tests.{leb-true, leb-false, eqb-true, eqb-false, not-false}
+use borrow.Author.Tests.{leb-true, leb-false, ltb-false, eqb-true, eqb-false, ne-eqb, not-false}
 use Rattle.model.specs.Limits.{EINPROGRESS, minus}
 use Rattle.model.specs.State.{State}
-use Rattle.model.specs.Records.{Rec, Done, finished, refused, allowed}
+use Rattle.model.specs.Records.{Rec, Done, LAST, RESULT, finished, refused, kindOf, allowed, fault}
 use Rattle.model.specs.Requests.{enable, disable, get, getWake, put, putIdle, idle, suspend, wake, setActive, setSuspended, ignoreChildren}
-use Rattle.model.specs.Steps.{result, request, recordStep}
-use Rattle.model.proofs.Basics.{by-if, and-parts}
-use Rattle.model.proofs.Tests.{tests}
+use Rattle.model.specs.Steps.{result, request, resultStep, busy, recordStep}
+use Rattle.model.proofs.Basics.{by-if, never, and-parts, or-none}
+use Rattle.model.specs.Logic.{_and_}
+use Rattle.model.proofs.Values.{waits}
 
 -- ---- kinds 1 to 12
 pub record Kinds (P : ℕ → Done → Type 0) (s : State) (p v : ℕ) : Type 0 where
@@ -26,15 +28,15 @@ pub record Kinds (P : ℕ → Done → Type 0) (s : State) (p v : ℕ) : Type 0 
   pub wakes : P 9 (wake s p)
   pub setActives : P 10 (setActive s p)
   pub setSuspendeds : P 11 (setSuspended s p)
-  pub ignores : P 12 (ignoreChildren s p v)
+  pub ignores : allowed 12 v ≡ true → P 12 (ignoreChildren s p v)
 
 past : (k kind : ℕ) → k ≤ kind → eqb kind k ≡ false → suc k ≤ kind
 past k kind h e = omega (arith, eqb-false kind k e)
 
 module _ (P : ℕ → Done → Type 0) {s : State} {p v : ℕ} (c : Kinds P s p v) where
-  pub by-kind : (kind : ℕ) → 1 ≤ kind → kind < 13 → P kind (request s kind p v)
+  pub by-kind : (kind : ℕ) → 1 ≤ kind → kind ≤ LAST → (kind ≡ RESULT → ⊥) → allowed kind v ≡ true → P kind (request s kind p v)
   unfolding request
-  by-kind kind l1 high =
+  by-kind kind l1 high ne a =
       by-if (P kind) _ _ _ (λ e. rw (eqb-true kind 1 e) (c .enables))
       (λ e. let l2 = past 1 kind l1 e in by-if (P kind) _ _ _ (λ e. rw (eqb-true kind 2 e) (c .disables))
       (λ e. let l3 = past 2 kind l2 e in by-if (P kind) _ _ _ (λ e. rw (eqb-true kind 3 e) (c .gets))
@@ -46,26 +48,51 @@ module _ (P : ℕ → Done → Type 0) {s : State} {p v : ℕ} (c : Kinds P s p 
       (λ e. let l9 = past 8 kind l8 e in by-if (P kind) _ _ _ (λ e. rw (eqb-true kind 9 e) (c .wakes))
       (λ e. let l10 = past 9 kind l9 e in by-if (P kind) _ _ _ (λ e. rw (eqb-true kind 10 e) (c .setActives))
       (λ e. let l11 = past 10 kind l10 e in by-if (P kind) _ _ _ (λ e. rw (eqb-true kind 11 e) (c .setSuspendeds))
-      (λ e. let z : kind ≡ 12 = omega (arith, past 11 kind l11 e) in rw z (c .ignores))))))))))))
+      (λ e. let z : kind ≡ 12 = omega (arith, past 11 kind l11 e, ne) in rw z (c .ignores (rw z at a)))))))))))))
+
+-- ---- a record without fault
+pub record Formed (n : ℕ) (r : Rec) : Type 0 where
+  pub low : 1 ≤ r .kind
+  pub high : r .kind ≤ LAST
+  pub known : r .device < n
+  pub fits : allowed (r .kind) (r .value) ≡ true
+
+pub formed : (n : ℕ) (r : Rec) → fault n r ≤ 0 → Formed n r
+unfolding fault
+formed n r =
+    by-if Fine _ _ _ (λ e l. absurd (omega arith))
+    (λ k. by-if Fine _ _ _ (λ e l. absurd (omega arith))
+    (λ u. by-if Fine _ _ _ (λ e l. absurd (omega arith))
+    (λ a l.
+    let z = and-parts _ _ (not-false _ k) in
+    record { low = leb-true 1 (r .kind) (z .0); high = leb-true (r .kind) LAST (z .1); known = leb-false n (r .device) (or-none _ _ u .0); fits = not-false _ a })))
+  where
+    Fine : ℕ → Type 0
+    Fine f = f ≤ 0 → Formed n r
 
 -- ---- every record
 pub record Cases (P : Done → Type 0) (s : State) (r : Rec) : Type 0 where
   pub refuses : (number : ℕ) → P (refused s (r .device) number)
-  pub results : r .kind ≡ 13 → allowed 13 (r .value) ≡ true → (s .callback .kind ≡ 0 → ⊥) → r .device ≡ s .callback .asked → P (result s (r .device) (r .value))
+  pub results : r .kind ≡ RESULT → allowed RESULT (r .value) ≡ true → (s .callback .kind ≡ 0 → ⊥) → r .device ≡ s .callback .asked → P (result s (r .device) (r .value))
   pub busy : P (finished s (r .device) (minus EINPROGRESS))
-  pub requests : 1 ≤ r .kind → r .kind < 13 → r .device < s .wiring .n → allowed (r .kind) (r .value) ≡ true → s .callback .kind ≡ 0 → P (request s (r .kind) (r .device) (r .value))
+  pub requests : Formed (s .wiring .n) r → (r .kind ≡ RESULT → ⊥) → s .callback .kind ≡ 0 → P (request s (r .kind) (r .device) (r .value))
+
+-- a kind that waits is not answered unless no callback is open
+not-busy : (s : State) (kind : ℕ) → kindOf kind .always ≡ false → busy s kind ≡ false → s .callback .kind ≡ 0
+unfolding busy _and_
+not-busy s kind w e =
+    elim (ℕ-discrete (s .callback .kind) 0) [ yes y ↦ y | no n ↦ never {x = true} refl (rw (w, ne-eqb (s .callback .kind) 0 n) at e) ]
 
 pub by-record : (P : Done → Type 0) {s : State} {r : Rec} → Cases P s r → P (recordStep s r)
-unfolding recordStep
+unfolding recordStep resultStep
 by-record P {s} {r} c =
-    by-if P _ _ _ (λ e. c .refuses 11)
-    (λ k. by-if P _ _ _ (λ e. c .refuses 12)
-    (λ l. by-if P _ _ _ (λ e. c .refuses 13)
-    (λ a. by-if P _ _ _ (λ e. c .refuses 14)
+    by-if P _ _ _ (λ e. c .refuses _)
+    (λ f.
+    let g = formed (s .wiring .n) r (ltb-false 0 (fault (s .wiring .n) r) f) in
+    by-if P _ _ _
+    (λ k. by-if P _ _ _ (λ e. c .refuses 14)
     (λ o. by-if P _ _ _ (λ e. c .refuses 15)
-    (λ q. by-if P _ _ _
-    (λ j. let i = eqb-true (r .kind) 13 j in c .results i (rw i at (not-false (allowed (r .kind) (r .value)) a)) ((simp tests at o) i) ((simp tests at q) i))
-    (λ j. by-if P _ _ _ (λ e. c .busy)
-    (λ o.
-    let z = and-parts _ _ (not-false _ k) in
-    c .requests (leb-true 1 (r .kind) (z .0)) (omega (arith, leb-true (r .kind) 13 (z .1), eqb-false (r .kind) 13 j)) (leb-false (s .wiring .n) (r .device) l) (not-false _ a) (eqb-true (s .callback .kind) 0 (not-false _ o)))))))))
+    (λ q. let i = eqb-true (r .kind) RESULT k in c .results i (rw i at (g .fits)) (eqb-false (s .callback .kind) 0 o) (eqb-true (r .device) (s .callback .asked) (not-false _ q)))))
+    (λ k.
+    let ne = eqb-false (r .kind) RESULT k in
+    by-if P _ _ _ (λ e. c .busy) (λ b. c .requests g ne (not-busy s (r .kind) (waits (r .kind) (g .high) ne) b))))

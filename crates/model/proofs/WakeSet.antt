@@ -12,32 +12,32 @@ use lib.Seq.{getD-set-same, getD-set-other}
 use lib.Dec.{ltb, eqb}
 use borrow.Author.Tests.{ltb-true, lt-ltb, eqb-true, eq-eqb}
 use Rattle.model.specs.Limits.{ROWS, NONE}
-use Rattle.model.specs.Tests.{_and_, _or_, any, first}
+use Rattle.model.specs.Logic.{_and_, _or_, any, first}
 use Rattle.model.specs.Table.{Wiring}
 use Rattle.model.specs.State.{State, ACTIVE}
 use Rattle.model.specs.WakeSet.{Sleeping, Needs, child, link, InWake, self, next, Lowest, Falls, here, down-to, marked, On, marksChild, marksConsumer, belongs, sweep, wakeMarks, inWake, lowest}
-use Rattle.model.specs.Sound.{TableRules}
+use Rattle.model.specs.Sound.{Ordered}
 use Rattle.model.proofs.Basics.{and-parts, and-of, or-cases, or-left, or-right, any-find, any-of, first-passes, first-least, at-set, few-devices, none-rows}
 
 -- ---- the order: whatever a device rests on comes before it
-down : {w : Wiring} {p q : ℕ} → TableRules w → p < w .n → Needs w p q → q < p
+pub down : {w : Wiring} {p q : ℕ} → Ordered w → p < w .n → Needs w p q → q < p
 down {w} {p} {q} r h (child e ne ig) = rw e at (r .parents p h (λ f. ne (sym e ∙ f)))
 down {w} {p} {q} r h (link i l c s f) = rw (c, s) at (r .suppliers i l)
 
-within : {w : Wiring} {status : List ℕ} {t q : ℕ} → TableRules w → t < w .n → InWake w status t q → q ≤ t
+pub within : {w : Wiring} {status : List ℕ} {t q : ℕ} → Ordered w → t < w .n → InWake w status t q → q ≤ t
 within r h (self s) = omega arith
 within r h (next {p = p} i d s) = let k = within r h i in omega (arith, down r (omega arith) d)
 
 -- a device does not rest on itself
-pub apart : {w : Wiring} {p q : ℕ} → TableRules w → p < w .n → Needs w p q → q ≡ p → ⊥
+pub apart : {w : Wiring} {p q : ℕ} → Ordered w → p < w .n → Needs w p q → q ≡ p → ⊥
 apart r h d e = let z = down r h d in omega arith
 
 -- members are devices
-pub member-below : {w : Wiring} {status : List ℕ} {t q : ℕ} → TableRules w → t < w .n → InWake w status t q → q < w .n
+pub member-below : {w : Wiring} {status : List ℕ} {t q : ℕ} → Ordered w → t < w .n → InWake w status t q → q < w .n
 member-below r h i = let z = within r h i in omega arith
 
 -- the lowest member rests on powered devices only
-pub lowest-rests : {w : Wiring} {status : List ℕ} {t l : ℕ} → TableRules w → t < w .n → Lowest w status t l → (q : ℕ) → Needs w l q → 2 ≤ getD status q 0
+pub lowest-rests : {w : Wiring} {status : List ℕ} {t l : ℕ} → Ordered w → t < w .n → Lowest w status t l → (q : ℕ) → Needs w l q → 2 ≤ getD status q 0
 lowest-rests {w} {status} {t} {l} r ht m q d =
     let g = down r (member-below r ht (m .member)) d in
     elim (decLt (getD status q 0) 2) [ yes s ↦ (let z = m .least q (next (m .member) d s) in absurd (omega arith)) | no z ↦ omega arith ]
@@ -64,7 +64,7 @@ fewer {t = t} h (self s) = self (h t s)
 fewer {t = t} h (next {p = p} {q = q} i d s) = next (fewer h i) d (h q s)
 
 -- where the lowest member wakes, the rest of the set remains, no more and no less
-module _ {w : Wiring} {status : List ℕ} {t l : ℕ} (r : TableRules w) (ht : t < w .n) (m : Lowest w status t l) (row : l < length status) where
+module _ {w : Wiring} {status : List ℕ} {t l : ℕ} (r : Ordered w) (ht : t < w .n) (m : Lowest w status t l) (row : l < length status) where
   remains : (q : ℕ) → InWake w status t q → (q ≡ l → ⊥) → InWake w (set status l ACTIVE) t q
   remains q i ne = stay i ne
     where
@@ -178,7 +178,7 @@ module _ (w : Wiring) (status : List ℕ) (t : ℕ) (few : w .n ≤ NONE) (ht : 
   falls-iff q = (λ h. wake-right .sound q h .0, λ i. wake-right .full q (omega arith) i)
 
 -- where the table's rules hold every member is reached so
-in-falls : {w : Wiring} {status : List ℕ} {t q : ℕ} → TableRules w → t < w .n → InWake w status t q → Falls w status t q
+in-falls : {w : Wiring} {status : List ℕ} {t q : ℕ} → Ordered w → t < w .n → InWake w status t q → Falls w status t q
 in-falls r ht (self s) = here s
 in-falls r ht (next i d s) = down-to (in-falls r ht i) d (down r (member-below r ht i) d) s
 
@@ -187,7 +187,7 @@ falls-in (here s) = self s
 falls-in (down-to i d l s) = next (falls-in i) d s
 
 -- ---- the marks are those of the least set
-module _ (s : State) (r : TableRules (s .wiring)) (t : ℕ) (ht : t < s .wiring .n) where
+module _ (s : State) (r : Ordered (s .wiring)) (t : ℕ) (ht : t < s .wiring .n) where
   pub wake-iff : (q : ℕ) → (inWake s t q ≡ true) ↔ InWake (s .wiring) (s .devices .status) t q
   unfolding inWake
   wake-iff q =

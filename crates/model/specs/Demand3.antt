@@ -6,7 +6,7 @@ use Prim.Native.Nat.{ℕ, _<_, _+_, _*_, _%_}
 use lib.ListN.{length, take}
 use lib.Dec.{eqb}
 use Rattle.model.specs.Limits.{EOVERFLOW, EINPROGRESS, minus}
-use Rattle.model.specs.Tests.{if_then_else_, _and_, _or_, bit}
+use Rattle.model.specs.Logic.{if_then_else_, _and_, _or_, bit}
 use Rattle.model.specs.State.{State, usage, linkCount, loadOf}
 use Rattle.model.specs.Records.{Reply}
 use Rattle.model.specs.Steps.{Exchange, run, repliesIn}

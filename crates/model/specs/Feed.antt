@@ -5,7 +5,7 @@ use Prim.Native.Nat.{ℕ, _+_, _*_, _/_}
 use lib.ListN.{length, drop}
 use lib.Dec.{ltb, eqb}
 use Rattle.model.specs.Limits.{MAXPIECE}
-use Rattle.model.specs.Tests.{if_then_else_}
+use Rattle.model.specs.Logic.{if_then_else_}
 use Rattle.model.specs.State.{State}
 use Rattle.model.specs.Steps.{run, repliesIn}
 use Rattle.model.specs.SoundTest.{soundTest}

@@ -1,9 +1,8 @@
 -- Document 01 as definitions, in its order.
 pub mod Limits
-pub mod Tests
+pub mod Logic
 pub mod Table
 pub mod State
-pub mod Lent
 pub mod WakeSet
 pub mod Records
 pub mod Requests

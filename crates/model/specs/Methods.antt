@@ -1,7 +1,7 @@
 -- "Each request hands back a whole new bench": what one request on a bench gives, sound or not. Assumes nothing.
 use mathlib.Core.Bool.{not}
 use Prim.Native.Nat.{ℕ}
-use Rattle.model.specs.Tests.{if_then_else_}
+use Rattle.model.specs.Logic.{if_then_else_}
 use Rattle.model.specs.State.{State}
 use Rattle.model.specs.Records.{Rec, Reply}
 use Rattle.model.specs.Steps.{recordStep}

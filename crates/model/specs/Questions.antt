@@ -5,7 +5,7 @@ use Prim.Native.Nat.{ℕ, zero, suc}
 use lib.ListN.{getD}
 use lib.Dec.{leb, eqb}
 use Rattle.model.specs.Limits.{NONE}
-use Rattle.model.specs.Tests.{if_then_else_, _or_, bit}
+use Rattle.model.specs.Logic.{if_then_else_, _or_, bit}
 use Rattle.model.specs.State.{State, statusAt, holdsAt, childrenAt, usage}
 use Rattle.model.specs.WakeSet.{inWake}
 use Rattle.model.specs.SoundTest.{soundTest}

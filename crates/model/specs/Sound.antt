@@ -16,20 +16,24 @@ pub record Column (rows n most : ℕ) (col : List ℕ) : Type 0 where
   pub used : (p : ℕ) → p < n → getD col p 0 ≤ most
   pub unused : (p : ℕ) → n ≤ p → getD col p 0 ≡ 0
 
+-- what a device rests on has a lower number, and links ascend: as much of the rules as the wake set and the search for links need
+pub record Ordered (w : Wiring) : Type 0 where
+  pub devices : w .n ≤ DEVICES
+  pub links : w .m ≤ LINKS
+  pub parents : (p : ℕ) → p < w .n → (getD (w .parent) p 0 ≡ NONE → ⊥) → getD (w .parent) p 0 < p
+  pub consumers : (i : ℕ) → i < w .m → getD (w .consumer) i 0 < w .n
+  pub suppliers : (i : ℕ) → i < w .m → getD (w .supplier) i 0 < getD (w .consumer) i 0
+  pub ascending : (i : ℕ) → i < w .m - 1 → before (getD (w .consumer) i 0) (getD (w .supplier) i 0) (getD (w .consumer) (i + 1) 0) (getD (w .supplier) (i + 1) 0) ≡ true
+
 -- "its table parts keep the rules above and unused rows are zero"
 pub record TableRules (w : Wiring) : Type 0 where
   pub some : 1 ≤ w .n
-  pub devices : w .n ≤ DEVICES
-  pub links : w .m ≤ LINKS
+  pub order : Ordered w
   pub parentRows : Column ROWS (w .n) 255 (w .parent)
   pub ignoreRows : Column ROWS (w .n) 1 (w .ignore)
   pub consumerRows : Column LINKS (w .m) 255 (w .consumer)
   pub supplierRows : Column LINKS (w .m) 255 (w .supplier)
   pub flagRows : Column LINKS (w .m) 3 (w .flags)
-  pub parents : (p : ℕ) → p < w .n → (getD (w .parent) p 0 ≡ NONE → ⊥) → getD (w .parent) p 0 < p
-  pub consumers : (i : ℕ) → i < w .m → getD (w .consumer) i 0 < w .n
-  pub suppliers : (i : ℕ) → i < w .m → getD (w .supplier) i 0 < getD (w .consumer) i 0
-  pub ascending : (i : ℕ) → i < w .m - 1 → before (getD (w .consumer) i 0) (getD (w .supplier) i 0) (getD (w .consumer) (i + 1) 0) (getD (w .supplier) (i + 1) 0) ≡ true
 
 -- "supply rule": whatever a device that is awake, waking or going to sleep rests on is powered
 pub record Supply (w : Wiring) (status : List ℕ) : Type 0 where

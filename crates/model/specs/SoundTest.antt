@@ -6,7 +6,7 @@ use Prim.Native.Nat.{ℕ, _+_, _-_, _%_}
 use lib.ListN.{getD}
 use lib.Dec.{ltb, leb, eqb}
 use Rattle.model.specs.Limits.{DEVICES, LINKS, ROWS, NONE, MAXHOLDS, MAXDEPTH, MAXERROR}
-use Rattle.model.specs.Tests.{if_then_else_, _and_, _or_, _implies_, all}
+use Rattle.model.specs.Logic.{if_then_else_, _and_, _or_, _implies_, all}
 use Rattle.model.specs.Table.{Wiring, parentGood, endsGood, before}
 use Rattle.model.specs.State.{State, Devices, Carry, SUSPENDED, RESUMING, ACTIVE, SUSPENDING, powered, statusAt, childrenOf, linkedOf}
 use Rattle.model.specs.WakeSet.{inWake, lowest}

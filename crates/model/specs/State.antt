@@ -6,7 +6,7 @@ use Prim.Native.Nat.{ℕ, _+_, _%_}
 use lib.ListN.{getD, set, replicate}
 use lib.Dec.{ltb, leb, eqb}
 use Rattle.model.specs.Limits.{LINKS, ROWS, NONE}
-use Rattle.model.specs.Tests.{if_then_else_, _and_, tally, column}
+use Rattle.model.specs.Logic.{if_then_else_, _and_, tally, column}
 use Rattle.model.specs.Table.{Wiring, TableAnswer, tableAnswer, padded, wiringIn}
 
 -- ---- status

@@ -4,22 +4,22 @@ use mathlib.Core.Bool.{Bool, true, false, not}
 use mathlib.Core.List.{List, [], _∷_, _++_}
 use Prim.Native.Nat.{ℕ, _+_}
 use lib.ListN.{getD, set, replicate}
-use lib.Dec.{ltb, leb, eqb}
+use lib.Dec.{ltb, eqb}
 use Rattle.model.specs.Limits.{EAGAIN, EBUSY, EINPROGRESS, minus}
-use Rattle.model.specs.Tests.{if_then_else_, _and_, _or_}
+use Rattle.model.specs.Logic.{if_then_else_, _and_, _or_}
 use Rattle.model.specs.State.{State, SUSPENDED, ACTIVE, withError, withStatus, withCarry, closed}
 use Rattle.model.specs.WakeSet.{lowest}
-use Rattle.model.specs.Records.{Rec, Reply, Done, recordOf, replyBytes, finished, refused, allowed}
+use Rattle.model.specs.Records.{Rec, Reply, Done, RESULT, recordOf, replyBytes, finished, refused, kindOf, fault}
 use Rattle.model.specs.Requests.{enable, disable, get, getWake, put, putIdle, idle, askSuspend, suspend, askResume, wake, setActive, setSuspended, ignoreChildren}
 
 -- ---- kind 13: the result v of the open callback of the device p asked
--- the line "Idle"
+-- idle: 0 goes on to suspending; any other value finishes the request, and no error is kept (all house)
 unfoldable pub idleResult : State → ℕ → ℕ → Done
 idleResult s p v =
     if eqb v 0 then askSuspend (closed s) p
     else finished (closed s) p v
 
--- the line "Suspend"
+-- suspend: 0 gives suspended; any other value active (house), kept as the error unless it is -11 or -16
 unfoldable pub suspendResult : State → ℕ → ℕ → Done
 suspendResult s p v =
     if eqb v 0 then finished (closed (withStatus s p SUSPENDED)) p 0
@@ -32,16 +32,18 @@ goOn s t =
     if ltb (lowest s t) (s .wiring .n) then askResume s t
     else finished s t 0
 
--- the line "Resume"
-unfoldable pub resumeResult : State → ℕ → ℕ → Done
-resumeResult s p v =
-    if eqb v 0 then goOn (closed (withStatus s p ACTIVE)) (s .callback .target)
-    else finished (withError (closed (withStatus s p SUSPENDED)) p (minus v)) (s .callback .target) (if eqb p (s .callback .target) then v else minus EBUSY)
+-- resume, for the wake of t: 0 gives active and goes on; any other value gives suspended, is kept as that device's error, and ends the wake: with the value
+-- where it was the target, else with -16. Members woken before stay active
+unfoldable pub resumeResult : State → ℕ → ℕ → ℕ → Done
+resumeResult s p t v =
+    if eqb v 0 then goOn (closed (withStatus s p ACTIVE)) t
+    else finished (withError (closed (withStatus s p SUSPENDED)) p (minus v)) t (if eqb p t then v else minus EBUSY)
 
+-- by the kind of the open callback
 unfoldable pub result : State → ℕ → ℕ → Done
 result s p v =
     if eqb (s .callback .kind) 1 then suspendResult s p v
-    else if eqb (s .callback .kind) 2 then resumeResult s p v
+    else if eqb (s .callback .kind) 2 then resumeResult s p (s .callback .target) v
     else idleResult s p v
 
 -- ---- a whole record
@@ -61,16 +63,23 @@ request s kind p v =
     else if eqb kind 11 then setSuspended s p
     else ignoreChildren s p v
 
--- refusals 11 to 13, whether a callback is open or not; then a result, with 14 and 15; then -115 while a callback is open
+-- kind 13 for device p: "A callback result counts only when a callback is open, and only for the part asked", else 14 or 15
+unfoldable pub resultStep : State → ℕ → ℕ → Done
+resultStep s p v =
+    if eqb (s .callback .kind) 0 then refused s p 14
+    else if not (eqb p (s .callback .asked)) then refused s p 15
+    else result s p v
+
+-- a callback is open, and the kind is not answered meanwhile
+unfoldable pub busy : State → ℕ → Bool
+busy s kind = not (eqb (s .callback .kind) 0) and not (kindOf kind .always)
+
+-- one record: refused with 11 to 13; or a result; or -115 (house), and nothing changes; or the request
 unfoldable pub recordStep : State → Rec → Done
 recordStep s r =
-    if not (leb 1 (r .kind) and leb (r .kind) 13) then refused s (r .device) 11
-    else if leb (s .wiring .n) (r .device) then refused s (r .device) 12
-    else if not (allowed (r .kind) (r .value)) then refused s (r .device) 13
-    else if eqb (r .kind) 13 and eqb (s .callback .kind) 0 then refused s (r .device) 14
-    else if eqb (r .kind) 13 and not (eqb (r .device) (s .callback .asked)) then refused s (r .device) 15
-    else if eqb (r .kind) 13 then result s (r .device) (r .value)
-    else if not (eqb (s .callback .kind) 0) then finished s (r .device) (minus EINPROGRESS)
+    if ltb 0 (fault (s .wiring .n) r) then refused s (r .device) (fault (s .wiring .n) r)
+    else if eqb (r .kind) RESULT then resultStep s (r .device) (r .value)
+    else if busy s (r .kind) then finished s (r .device) (minus EINPROGRESS)
     else request s (r .kind) (r .device) (r .value)
 
 -- ---- the plain keeper

@@ -5,7 +5,7 @@ use Prim.Native.Nat.{ℕ, _+_, _*_, _-_}
 use lib.ListN.{length, getD}
 use lib.Dec.{ltb, leb, eqb}
 use Rattle.model.specs.Limits.{DEVICES, LINKS, ROWS, NONE}
-use Rattle.model.specs.Tests.{if_then_else_, _and_, _or_, first, column}
+use Rattle.model.specs.Logic.{if_then_else_, _and_, _or_, first, column}
 
 -- what a table says: how the devices ("parts") hang together
 pub record Wiring : Type 0 where

@@ -7,7 +7,7 @@ use Prim.Native.Nat.{ℕ, zero, suc, _<_, _≤_, _%_}
 use lib.ListN.{getD, set, replicate}
 use lib.Dec.{ltb, eqb}
 use Rattle.model.specs.Limits.{ROWS, NONE}
-use Rattle.model.specs.Tests.{_and_, _or_, any, first}
+use Rattle.model.specs.Logic.{_and_, _or_, any, first}
 use Rattle.model.specs.Table.{Wiring}
 use Rattle.model.specs.State.{State, ACTIVE, sleeping}
 

@@ -8,7 +8,7 @@ use native.Mathlib.Omega.{arith}
 use native.Mathlib.Nat.{eq-or-lt-of-le}
 use lib.Dec.{ltb}
 use borrow.Author.Tests.{lt-ltb, le-ltb}
-use Rattle.model.specs.Tests.{if_then_else_, _and_, first}
+use Rattle.model.specs.Logic.{if_then_else_, _and_, first}
 use Rattle.model.specs.Table.{TableAnswer, devicesIn, linksIn, deviceGood, linkFits, ascends, linkGood, badDevice, badLink, entriesAnswer}
 use Rattle.model.proofs.Basics.{first-at, first-none}
 

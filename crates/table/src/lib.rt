@@ -2,13 +2,13 @@
 ghost use mathlib.Core.Path.{_≡_};
 ghost use Rattle.model.specs.Table.{markGood, versionGood, limitsGood, lengthGood, parentGood, endsGood, before, deviceGood, linkFits, ascends, entriesAnswer, tableAnswer};
 ghost use Rattle.table.specs.Answers.{answerOf};
-use entries::byte_at;
-use entries::device_byte;
-use entries::link_byte;
-use entries::wide;
 use model::DEVICES;
 use model::LINKS;
 use model::NONE;
+use table_entries::byte_at;
+use table_entries::device_byte;
+use table_entries::link_byte;
+use table_entries::wide;
 
 // The answer to a table: taken, or a refusal, in document 01's order. An entry's refusal has its index.
 pub enum Answer {

@@ -1,2 +1,4 @@
 pub mod Marking
-pub mod Above
+pub mod Members
+pub mod Parents
+pub mod Scans

@@ -1,22 +1,29 @@
--- Laws of marking by recursion: what is joined to the marks, step by step. Assumes nothing.
+-- Laws of marking by recursion: what each step adds to the marks. A device's set is itself, its parent's set and its suppliers' sets;
+-- marks stay closed under what a device rests on, so a marked device needs no second visit. The number that each step answers is the
+-- lowest of the one that it was given and the new marks. Assumes nothing.
 use mathlib.Core.Path.{_≡_, refl, sym, _∙_, subst}
 use mathlib.Core.Bool.{Bool, true, false}
-use mathlib.Core.List.{List}
+use mathlib.Core.List.{List, []}
 use mathlib.Core.Logic.{_⊎_, inl, inr, ⊎-elim, _↔_}
-use Prim.Native.Nat.{ℕ, _+_, _<_, _≤_, _%_}
+use Prim.Native.Nat.{ℕ, _+_, _<_, _≤_}
 use native.Mathlib.Omega.{arith}
 use native.Mathlib.Nat.{eq-or-lt-of-le, le-refl}
 use native.Mathlib.Decide.{ℕ-discrete, decLt}
-use lib.ListN.{length, getD, set, replicate, length-set, length-replicate}
-use lib.Seq.{getD-set-same, getD-set-other, ext-getD}
-use Rattle.model.specs.Limits.{ROWS, NONE}
-use Rattle.model.specs.Tests.{_and_}
-use Rattle.model.specs.Table.{Wiring, wired}
-use Rattle.model.specs.WakeSet.{Sleeping, Needs, child, link, Falls, here, down-to, On, wakeMarks}
-use Rattle.model.proofs.Tests.{tests}
-use Rattle.model.proofs.WakeSet.{none-on, marks-long, falls-iff}
-use Rattle.links.specs.Ascending.{Ascending}
-use Rattle.wakeset.specs.Marks.{onParent, leads, Joined, Closed, FromLinks, Ready}
+use lib.ListN.{length, getD, set, length-set}
+use lib.Seq.{getD-set-same, getD-set-other}
+use lib.Dec.{ltb}
+use borrow.Author.Tests.{ltb-true, ltb-false}
+use Rattle.model.specs.Limits.{LINKS, ROWS, NONE}
+use Rattle.model.specs.Logic.{if_then_else_}
+use Rattle.model.specs.Table.{Wiring}
+use Rattle.model.specs.State.{State, ACTIVE, statusAt}
+use Rattle.model.specs.WakeSet.{Sleeping, Needs, child, link, Falls, here, down-to, On}
+use Rattle.model.proofs.Basics.{never, by-if, none-rows}
+use Rattle.model.proofs.Logic.{tests, and-iff, lt-iff}
+use Rattle.memory.specs.Layout.{stateIn}
+use Rattle.links.specs.Firsts.{firstLink, Listed}
+use Rattle.links.proofs.Order.{link-of, of-link, first-at, next-at, next-fits}
+use Rattle.wakeset.specs.Marks.{onParent, onSupplier, sleepingParent, sleepingSupplier, fallsFrom, FromLinks, Joined, Ready, Lowered, Marks}
 
 -- ---- the set of a device, from its first step
 front : {w : Wiring} {status : List ℕ} {p r q : ℕ} → Sleeping status p → Needs w p r → r < p → Falls w status r q → Falls w status p q
@@ -25,170 +32,288 @@ front s d l (down-to i d′ l′ s′) = down-to (front s d l i) d′ l′ s′
 
 split : {w : Wiring} {status : List ℕ} {p q : ℕ} → Falls w status p q → (q ≡ p) ⊎ ((r : ℕ) × Needs w p r × (r < p) × Falls w status r q)
 split (here s) = inl refl
-split {w} {status} {p} (down-to {p = m} {q = q} i d l s) = ⊎-elim (λ e. inr (q, subst (λ (k : ℕ). Needs w k q) e d, (rw e at l), here s)) (λ z. inr (z .0, z .1, z .2, down-to (z .3) d l s)) (split i)
+split {w} (down-to {p = m} {q = q} i d l s) =
+    ⊎-elim (λ e. inr (q, subst (λ (k : ℕ). Needs w k q) e d, (rw e at l), here s)) (λ z. inr (z .0, z .1, z .2, down-to (z .3) d l s)) (split i)
 
-pub powered-none : {w : Wiring} {status : List ℕ} {p q : ℕ} → Falls w status p q → Sleeping status p
-powered-none (here s) = s
-powered-none (down-to i d l s) = powered-none i
+-- a powered device's set is empty
+target-asleep : {w : Wiring} {status : List ℕ} {p q : ℕ} → Falls w status p q → Sleeping status p
+target-asleep (here s) = s
+target-asleep (down-to i d l s) = target-asleep i
 
--- ---- sets that are closed under what a device rests on
-abbrev Shut : Wiring → List ℕ → (ℕ → Type 0) → Type 0
-Shut w status P = (p q : ℕ) → P p → Needs w p q → q < p → Sleeping status q → P q
-
-least : {w : Wiring} {status : List ℕ} {t q : ℕ} (P : ℕ → Type 0) → P t → Shut w status P → Falls w status t q → P q
-least P h c (here s) = h
-least P h c (down-to {p = p} {q = q} i d l s) = c p q (least P h c i) d l s
-
-pub closed-has : {w : Wiring} {status : List ℕ} {ms : List Bool} {p q : ℕ} → Closed w status ms → On ms p → Falls w status p q → On ms q
-closed-has {ms = ms} c h i = least (λ q. On ms q) h (c .shut) i
-
+-- ---- the sets that a device's set is made of
 -- q is reached through p's parent, which counts its children
-pub record FromParent (w : Wiring) (status : List ℕ) (p q : ℕ) : Type 0 where
-  pub rests : onParent (w .parent) (w .ignore) p ≡ true
-  pub falls : Falls w status (getD (w .parent) p 0) q
+pub record FromParent (p : ℕ) (s : State) (q : ℕ) : Type 0 where
+  pub rests : onParent (s .wiring) p ≡ true
+  pub falls : fallsFrom (getD (s .wiring .parent) p 0) s q
 
 -- q is reached through p's supplier by link i
-pub record AtLink (w : Wiring) (status : List ℕ) (p i q : ℕ) : Type 0 where
-  pub leading : leads (w .consumer) (w .supplier) (w .flags) p i ≡ true
-  pub falls : Falls w status (getD (w .supplier) i 0) q
+pub record AtLink (p i : ℕ) (s : State) (q : ℕ) : Type 0 where
+  pub leads : onSupplier (s .wiring) p i ≡ true
+  pub falls : fallsFrom (getD (s .wiring .supplier) i 0) s q
 
-parent-shut : {w : Wiring} {status : List ℕ} {t : ℕ} → Shut w status (FromParent w status t)
-parent-shut p q f d l s = record { rests = f .rests; falls = down-to (f .falls) d l s }
+-- such a set has, with each device, the lower sleeping ones that it rests on
+abbrev Shut : State → (ℕ → Type 0) → Type 0
+Shut s P = (p q : ℕ) → P p → Needs (s .wiring) p q → q < p → Sleeping (s .devices .status) q → P q
 
-at-shut : {w : Wiring} {status : List ℕ} {t i : ℕ} → Shut w status (AtLink w status t i)
-at-shut p q f d l s = record { leading = f .leading; falls = down-to (f .falls) d l s }
+parent-shut : {t : ℕ} (s : State) → Shut s (FromParent t s)
+parent-shut s p q f d l z = record { rests = f .rests; falls = down-to (f .falls) d l z }
 
--- ---- what is joined
--- nothing new
-pub joined-same : {P : ℕ → Type 0} {ms : List Bool} → ((q : ℕ) → P q → On ms q) → Joined P ms ms
-joined-same h = record { long = refl; kept = λ q m. m; has = h; only = λ q m. inl m }
+link-shut : {t i : ℕ} (s : State) → Shut s (AtLink t i s)
+link-shut s p q f d l z = record { leads = f .leads; falls = down-to (f .falls) d l z }
 
+-- ---- what the tests tell
+-- the parent, or the supplier by link i, is lower than p
+lower-parent : (w : Wiring) (p : ℕ) → onParent w p ≡ true → getD (w .parent) p 0 < p
+unfolding onParent
+lower-parent w p e = (simp tests at e) .0
+
+lower-supplier : (w : Wiring) (p i : ℕ) → onSupplier w p i ≡ true → getD (w .supplier) i 0 < p
+unfolding onSupplier
+lower-supplier w p i e = (simp tests at e) .0
+
+-- the code's tests: p rests on it, and it sleeps
+parent-tests : (s : State) (p : ℕ) → (sleepingParent s p ≡ true) ↔ ((onParent (s .wiring) p ≡ true) × Sleeping (s .devices .status) (getD (s .wiring .parent) p 0))
+unfolding sleepingParent
+parent-tests s p = (λ e. simp (and-iff, lt-iff) at e, λ f. simp (and-iff, lt-iff) f)
+
+supplier-tests : (s : State) (p i : ℕ) →
+    (sleepingSupplier s p i ≡ true) ↔ ((onSupplier (s .wiring) p i ≡ true) × Sleeping (s .devices .status) (getD (s .wiring .supplier) i 0))
+unfolding sleepingSupplier
+supplier-tests s p i = (λ e. simp (and-iff, lt-iff) at e, λ f. simp (and-iff, lt-iff) f)
+
+parent-needs : (w : Wiring) (p : ℕ) → p ≤ NONE → onParent w p ≡ true → Needs w p (getD (w .parent) p 0)
+unfolding onParent
+parent-needs w p few e = let f = simp tests at e in let z = f .0 in child refl (λ y. omega arith) (f .1)
+
+-- the links of p are those from its first to the next device's first
+module _ {w : Wiring} {first : List ℕ} (h : Listed w first) (p : ℕ) (few : p ≤ NONE) where
+  start : getD first p 0 ≡ firstLink w p
+  start = rw (h .index) (first-at w p (none-rows few))
+
+  end : getD first (p + 1) 0 ≡ firstLink w (p + 1)
+  end = rw (h .index) (next-at w p (none-rows few))
+
+  -- no index leads past the links
+  pub end-fits : getD first (p + 1) 0 ≤ LINKS
+  end-fits = rw end (next-fits h p)
+
+  link-needs : (i : ℕ) → getD first p 0 ≤ i → i < getD first (p + 1) 0 → onSupplier w p i ≡ true → Needs w p (getD (w .supplier) i 0)
+  unfolding onSupplier
+  link-needs i a b e = let o = link-of (h .order) p i (rw start at a) (rw end at b) in link i (o .0) (o .1) refl ((simp tests at e) .1)
+
+  -- what p rests on below it is its parent, or a supplier by one of these links
+  needs-tests : {r : ℕ} → Needs w p r → r < p →
+      ((r ≡ getD (w .parent) p 0) × (onParent w p ≡ true))
+      ⊎ ((i : ℕ) × (getD first p 0 ≤ i) × (i < getD first (p + 1) 0) × (r ≡ getD (w .supplier) i 0) × (onSupplier w p i ≡ true))
+  unfolding onParent onSupplier
+  needs-tests (child e ne ig) l = inl (sym e, simp tests ((rw (← e) at l), (rw (← e) at ig)))
+  needs-tests (link i b c s f) l = let o = of-link (h .order) p i b c in inr (i, rw start (o .0), rw end (o .1), sym s, simp tests ((rw (← s) at l), f))
+
+-- the parent's set, the suppliers' sets and the device are the device's set
+module _ {s : State} {first : List ℕ} (h : Listed (s .wiring) first) (p : ℕ) (few : p ≤ NONE) (z : Sleeping (s .devices .status) p) where
+  whole-to : (q : ℕ) → (FromParent p s q ⊎ FromLinks first p (getD first p 0) s q) ⊎ (q ≡ p) → fallsFrom p s q
+  whole-to q =
+      ⊎-elim
+      (⊎-elim
+      (λ f. front z (parent-needs _ p few (f .rests)) (lower-parent _ p (f .rests)) (f .falls))
+      (λ f. front z (link-needs h p few (f .at) (f .from) (f .below) (f .leads)) (lower-supplier _ p (f .at) (f .leads)) (f .falls)))
+      (λ e. rw e (here z))
+
+  by-first : (q r : ℕ) → Needs (s .wiring) p r → r < p → fallsFrom r s q → FromParent p s q ⊎ FromLinks first p (getD first p 0) s q
+  by-first q r d b i =
+      ⊎-elim (λ y. inl (record { rests = y .1; falls = rw (y .0) at i }))
+      (λ y. inr (record { at = y .0; from = y .1; below = y .2; leads = y .4; falls = rw (y .3) at i }))
+      (needs-tests h p few d b)
+
+  whole-from : (q : ℕ) → fallsFrom p s q → (FromParent p s q ⊎ FromLinks first p (getD first p 0) s q) ⊎ (q ≡ p)
+  whole-from q i = ⊎-elim (λ e. inr e) (λ y. inl (by-first q (y .0) (y .1) (y .2) (y .3))) (split i)
+
+-- link k, then the others
+module _ {first : List ℕ} {p : ℕ} (k : ℕ) (b : k < getD first (p + 1) 0) {s : State} where
+  links-to : (q : ℕ) → AtLink p k s q ⊎ FromLinks first p (k + 1) s q → FromLinks first p k s q
+  links-to q =
+      ⊎-elim (λ f. record { at = k; from = le-refl k; below = b; leads = f .leads; falls = f .falls })
+      (λ f. record { at = f .at; from = omega (arith, f .from); below = f .below; leads = f .leads; falls = f .falls })
+
+  links-from : (q : ℕ) → FromLinks first p k s q → AtLink p k s q ⊎ FromLinks first p (k + 1) s q
+  links-from q f =
+      ⊎-elim (λ e. inl (record { leads = rw (← e) at (f .leads); falls = rw (← e) at (f .falls) }))
+      (λ l. inr (record { at = f .at; from = omega (arith, l); below = f .below; leads = f .leads; falls = f .falls }))
+      (eq-or-lt-of-le (f .from))
+
+-- ---- what is joined to the marks
 -- the same set under another name
-pub joined-as : {P Q : ℕ → Type 0} {ms ms′ : List Bool} → ((q : ℕ) → P q → Q q) → ((q : ℕ) → Q q → P q) → Joined P ms ms′ → Joined Q ms ms′
-joined-as f g j = record { long = j .long; kept = j .kept; has = λ q m. j .has q (g q m); only = λ q m. ⊎-elim (λ o. inl o) (λ o. inr (f q o)) (j .only q m) }
+joined-as : {P Q : ℕ → Type 0} {a b : List Bool} → ((q : ℕ) → P q → Q q) → ((q : ℕ) → Q q → P q) → Joined P a b → Joined Q a b
+joined-as f g j = record { kept = j .kept; has = λ q m. j .has q (g q m); only = λ q m. ⊎-elim (λ o. inl o) (λ o. inr (f q o)) (j .only q m) }
 
 -- one set after another
 joined-then : {P Q : ℕ → Type 0} {a b c : List Bool} → Joined P a b → Joined Q b c → Joined (λ q. P q ⊎ Q q) a c
 joined-then j k =
     record {
-      long = k .long ∙ j .long;
       kept = λ q m. k .kept q (j .kept q m);
       has = λ q. ⊎-elim (λ m. k .kept q (j .has q m)) (λ m. k .has q m);
       only = λ q m. ⊎-elim (λ o. ⊎-elim (λ n. inl n) (λ n. inr (inl n)) (j .only q o)) (λ o. inr (inr o)) (k .only q m);
     }
 
 -- a store of a mark joins one device
+set-only : (ms : List Bool) (p q : ℕ) → On (set ms p true) q → On ms q ⊎ (q ≡ p)
+set-only ms p q m = elim (ℕ-discrete q p) [ yes e ↦ inr e | no ne ↦ inl (sym (getD-set-other ms p q true false ne) ∙ m) ]
+
 joined-set : (ms : List Bool) (p : ℕ) → p < length ms → Joined (λ q. q ≡ p) ms (set ms p true)
 joined-set ms p l =
     record {
-      long = length-set ms p true;
       kept = λ q m. elim (ℕ-discrete q p) [ yes e ↦ rw e (getD-set-same ms p true false l) | no ne ↦ getD-set-other ms p q true false ne ∙ m ];
       has = λ q e. rw e (getD-set-same ms p true false l);
-      only = λ q m. elim (ℕ-discrete q p) [ yes e ↦ inr e | no ne ↦ inl (sym (getD-set-other ms p q true false ne) ∙ m) ];
+      only = set-only ms p;
     }
 
--- ---- what the two tests tell
-parent-needs : (w : Wiring) (p : ℕ) → p ≤ NONE → onParent (w .parent) (w .ignore) p ≡ true → Needs w p (getD (w .parent) p 0) × (getD (w .parent) p 0 < p)
-unfolding onParent
-parent-needs w p low e = let f = simp tests at e in let z = f .0 in (child refl (λ y. omega arith) (f .1), z)
-
-link-needs : (w : Wiring) (p i : ℕ) → i < w .m → leads (w .consumer) (w .supplier) (w .flags) p i ≡ true → Needs w p (getD (w .supplier) i 0) × (getD (w .supplier) i 0 < p)
-unfolding leads
-link-needs w p i l e = let f = simp tests at e in (link i l (f .0) refl (f .1 .1), f .1 .0)
-
-pub parent-lower : (parent ignore : List ℕ) (p : ℕ) → onParent parent ignore p ≡ true → getD parent p 0 < p
-unfolding onParent
-parent-lower parent ignore p e = (simp tests at e) .0
-
-pub supplier-lower : (consumer supplier flags : List ℕ) (p i : ℕ) → leads consumer supplier flags p i ≡ true → getD supplier i 0 < p
-unfolding leads
-supplier-lower consumer supplier flags p i e = (simp tests at e) .1 .0
-
-pub link-consumer : (consumer supplier flags : List ℕ) (p i : ℕ) → leads consumer supplier flags p i ≡ true → getD consumer i 0 ≡ p
-unfolding leads
-link-consumer consumer supplier flags p i e = (simp tests at e) .0
-
--- what p rests on below it is its parent or a supplier, as the tests say
-needs-tests : {w : Wiring} {p r : ℕ} → Needs w p r → r < p → ((r ≡ getD (w .parent) p 0) × (onParent (w .parent) (w .ignore) p ≡ true)) ⊎ ((i : ℕ) × (i < w .m) × (r ≡ getD (w .supplier) i 0) × (leads (w .consumer) (w .supplier) (w .flags) p i ≡ true))
-unfolding onParent leads
-needs-tests (child e ne ig) l = inl (sym e, simp tests ((rw (← e) at l), (rw (← e) at ig)))
-needs-tests (link i b c s f) l = inr (i, b, sym s, simp tests (c, ((rw (← s) at l), f)))
-
--- the parent's set, the suppliers' sets from the first link of p on and the device are the device's set
-pub joined-whole : (w : Wiring) (status : List ℕ) (p k : ℕ) (M₀ M₁ M₂ : List Bool) → p ≤ NONE → Sleeping status p → p < length M₀ → ((i : ℕ) → i < k → getD (w .consumer) i 0 ≡ p → ⊥) → Joined (FromParent w status p) M₀ M₁ → Joined (FromLinks w status p k) M₁ M₂ → Joined (Falls w status p) M₀ (set M₂ p true)
-joined-whole w status p k M₀ M₁ M₂ low s l none j h =
-    joined-as to from (joined-then (joined-then j h) (joined-set M₂ p (let x = j .long in let y = h .long in omega arith)))
-  where
-    to : (q : ℕ) → (FromParent w status p q ⊎ FromLinks w status p k q) ⊎ (q ≡ p) → Falls w status p q
-    to q =
-        ⊎-elim
-        (⊎-elim (λ f. let d = parent-needs w p low (f .rests) in front s (d .0) (d .1) (f .falls)) (λ f. let d = link-needs w p (f .at) (f .below) (f .leading) in front s (d .0) (d .1) (f .falls)))
-        (λ e. rw e (here s))
-
-    on : (i : ℕ) → leads (w .consumer) (w .supplier) (w .flags) p i ≡ true → k ≤ i
-    on i e = elim (decLt i k) [ yes b ↦ absurd (none i b (link-consumer _ _ _ p i e)) | no b ↦ omega arith ]
-
-    by : (q r : ℕ) → Needs w p r → r < p → Falls w status r q → (FromParent w status p q ⊎ FromLinks w status p k q) ⊎ (q ≡ p)
-    by q r d b i = inl (⊎-elim (λ z. inl (record { rests = z .1; falls = rw (z .0) at i })) (λ z. inr (record { at = z .0; from = on (z .0) (z .3); below = z .1; leading = z .3; falls = rw (z .2) at i })) (needs-tests d b))
-
-    from : (q : ℕ) → Falls w status p q → (FromParent w status p q ⊎ FromLinks w status p k q) ⊎ (q ≡ p)
-    from q i = ⊎-elim (λ e. inr e) (λ z. by q (z .0) (z .1) (z .2) (z .3)) (split i)
-
--- link k, then the others
-pub joined-links : (w : Wiring) (status : List ℕ) (p k : ℕ) (M₀ M₁ M₂ : List Bool) → k < w .m → Joined (AtLink w status p k) M₀ M₁ → Joined (FromLinks w status p (k + 1)) M₁ M₂ → Joined (FromLinks w status p k) M₀ M₂
-joined-links w status p k M₀ M₁ M₂ b j l =
-    joined-as to from (joined-then j l)
-  where
-    to : (q : ℕ) → AtLink w status p k q ⊎ FromLinks w status p (k + 1) q → FromLinks w status p k q
-    to q = ⊎-elim (λ f. record { at = k; from = le-refl k; below = b; leading = f .leading; falls = f .falls }) (λ f. record { at = f .at; from = omega (arith, f .from); below = f .below; leading = f .leading; falls = f .falls })
-
-    from : (q : ℕ) → FromLinks w status p k q → AtLink w status p k q ⊎ FromLinks w status p (k + 1) q
-    from q f =
-        ⊎-elim (λ e. inl (record { leading = rw (← e) at (f .leading); falls = rw (← e) at (f .falls) })) (λ h. inr (record { at = f .at; from = omega (arith, h); below = f .below; leading = f .leading; falls = f .falls })) (eq-or-lt-of-le (f .from))
-
--- ---- what a call asks, after a set was joined
-ready-joined : {w : Wiring} {status : List ℕ} {P : ℕ → Type 0} {ms ms′ : List Bool} → Shut w status P → Joined P ms ms′ → Ready w status ms → Ready w status ms′
-ready-joined cP j r =
+-- marks stay ready
+ready-joined : {s : State} {first : List ℕ} {P : ℕ → Type 0} {a b : List Bool} → Shut s P → length b ≡ length a → Joined P a b → Ready s first a → Ready s first b
+ready-joined shut long j r =
     record {
-      ascending = r .ascending;
-      long = j .long ∙ r .long;
-      closed = record { shut = λ p q h d l s. ⊎-elim (λ m. j .kept q (r .closed .shut p q m d l s)) (λ m. j .has q (cP p q m d l s)) (j .only p h) };
+      listed = r .listed;
+      long = long ∙ r .long;
+      closed = λ p q h d l s. ⊎-elim (λ m. j .kept q (r .closed p q m d l s)) (λ m. j .has q (shut p q m d l s)) (j .only p h);
     }
 
-pub ready-parent : {w : Wiring} {status : List ℕ} {p : ℕ} {ms ms′ : List Bool} → Joined (FromParent w status p) ms ms′ → Ready w status ms → Ready w status ms′
-ready-parent j r = ready-joined parent-shut j r
+-- a marked device has all of its set marked
+pub closed-has : {s : State} {first : List ℕ} {ms : List Bool} {p q : ℕ} → Ready s first ms → On ms p → fallsFrom p s q → On ms q
+closed-has r h (here s) = h
+closed-has r h (down-to {p = p} {q = q} i d l s) = r .closed p q (closed-has r h i) d l s
 
-pub ready-link : {w : Wiring} {status : List ℕ} {p i : ℕ} {ms ms′ : List Bool} → Joined (AtLink w status p i) ms ms′ → Ready w status ms → Ready w status ms′
-ready-link j r = ready-joined at-shut j r
+-- ---- the lowest number
+-- nothing new
+lowered-same : {ms : List Bool} {low : ℕ} → Lowered ms ms low low
+lowered-same {low = low} = record { kept = λ q m. m; within = le-refl low; on = λ l. absurd (omega arith); least = λ q m. inl m }
 
--- ---- the whole set
-alike : (a b : Bool) → (a ≡ true → b ≡ true) → (b ≡ true → a ≡ true) → a ≡ b
-alike true b f g = sym (f refl)
-alike false true f g = g refl
-alike false false f g = refl
+-- one step after another: what the second leaves as it is, the first put there
+lowered-then : {a b c : List Bool} {low₀ low r : ℕ} → Lowered a b low₀ low → Lowered b c low r → Lowered a c low₀ r
+lowered-then {low = low} {r = r} m n =
+    let x = m .within in
+    let y = n .within in
+    record {
+      kept = λ q o. n .kept q (m .kept q o);
+      within = omega arith;
+      on = λ l. elim (decLt r low) [ yes k ↦ n .on k | no k ↦ let e : r ≡ low = omega arith in rw e (n .kept low (m .on (omega arith))) ];
+      least = λ q o. ⊎-elim (λ u. ⊎-elim (λ v. inl v) (λ v. inr (omega arith)) (m .least q u)) (λ u. inr u) (n .least q o);
+    }
 
-module _ (m : ℕ) (parent ignore consumer supplier flags status : List ℕ) where
-  abbrev for : ℕ → Wiring
-  for n = wired n m parent ignore consumer supplier flags
+-- a store of a mark, and the lower of the two numbers
+lowered-set : (ms : List Bool) (p low : ℕ) → p < length ms → Lowered ms (set ms p true) low (if ltb p low then p else low)
+lowered-set ms p low l =
+    let j = joined-set ms p l in
+    by-if (Lowered ms (set ms p true) low) (ltb p low) _ _
+    (λ y.
+    let z = ltb-true p low y in
+    record { kept = j .kept; within = omega arith; on = λ k. j .has p refl; least = λ q o. ⊎-elim (λ u. inl u) (λ e. inr (omega arith)) (j .only q o) })
+    (λ n.
+    let z = ltb-false p low n in
+    record { kept = j .kept; within = le-refl low; on = λ k. absurd (omega arith); least = λ q o. ⊎-elim (λ u. inl u) (λ e. inr (omega arith)) (j .only q o) })
 
-  -- how many devices there are is not read
-  need-again : (n n′ : ℕ) {p q : ℕ} → Needs (for n) p q → Needs (for n′) p q
-  need-again n n′ (child e ne ig) = child e ne ig
-  need-again n n′ (link k b c o f) = link k b c o f
+-- ---- the device r that a call goes to: lower than p, and asleep
+module _ (bytes : List ℕ) (p : ℕ) {r : ℕ} (e : (words : List ℕ) → r ≡ getD (stateIn bytes words .wiring .parent) p 0)
+    (t : (words : List ℕ) → sleepingParent (stateIn bytes words) p ≡ true) where
+  pub parent-lower : r < p
+  parent-lower = rw (e []) (lower-parent _ p (parent-tests (stateIn bytes []) p .0 (t []) .0))
 
-  falls-again : (n n′ : ℕ) {t q : ℕ} → Falls (for n) status t q → Falls (for n′) status t q
-  falls-again n n′ (here s) = here s
-  falls-again n n′ (down-to i d l s) = down-to (falls-again n n′ i) (need-again n n′ d) l s
+  pub parent-asleep : (words : List ℕ) → statusAt (stateIn bytes words) r < ACTIVE
+  parent-asleep words = rw (e words) (parent-tests (stateIn bytes words) p .0 (t words) .1)
 
-  -- the set joined to no marks is the wake set's marks
-  pub marks-are : (n t : ℕ) → n ≤ NONE → t < n → (ms : List Bool) → Joined (Falls (for 0) status t) (replicate ROWS false) ms → ms ≡ wakeMarks (for n) status t
-  marks-are n t few l ms j =
-      let long : length ms ≡ ROWS = j .long ∙ length-replicate ROWS false in
-      ext-getD false ms (wakeMarks (for n) status t) (long ∙ sym (marks-long (for n) status t few l))
-      (λ q b. alike (getD ms q false) (getD (wakeMarks (for n) status t) q false)
-      (λ e. falls-iff (for n) status t few l q .1 (falls-again 0 n (⊎-elim (λ o. absurd (none-on ROWS q o)) (λ f. f) (j .only q e))))
-      (λ e. j .has q (falls-again n 0 (falls-iff (for n) status t few l q .0 e))))
+module _ (bytes : List ℕ) (p k : ℕ) {r : ℕ} (e : (words : List ℕ) → r ≡ getD (stateIn bytes words .wiring .supplier) k 0)
+    (t : (words : List ℕ) → sleepingSupplier (stateIn bytes words) p k ≡ true) where
+  pub supplier-lower : r < p
+  supplier-lower = rw (e []) (lower-supplier _ p k (supplier-tests (stateIn bytes []) p k .0 (t []) .0))
 
--- no mark is closed
-pub ready-none : (w : Wiring) (status : List ℕ) → Ascending (w .consumer) (w .m) → Ready w status (replicate ROWS false)
-ready-none w status a = record { ascending = a; long = length-replicate ROWS false; closed = record { shut = λ p q h. absurd (none-on ROWS p h) } }
+  pub supplier-asleep : (words : List ℕ) → statusAt (stateIn bytes words) r < ACTIVE
+  supplier-asleep words = rw (e words) (supplier-tests (stateIn bytes words) p k .0 (t words) .1)
+
+-- ---- the steps of the code
+module _ {bytes first : List ℕ} {p : ℕ} where
+  -- nothing new
+  pub marks-same : {P : State → ℕ → Type 0} {ms : List Bool} {low : ℕ} →
+      ((words : List ℕ) → Ready (stateIn bytes words) first ms → (q : ℕ) → P (stateIn bytes words) q → On ms q) → Marks P bytes first p ms ms low low
+  marks-same h =
+      record {
+        long = refl;
+        only = λ words q m. inl m;
+        lowers = λ e. lowered-same;
+        is = λ words r. record { kept = λ q m. m; has = h words r; only = λ q m. inl m };
+      }
+
+  -- the set of a lower device, under another name
+  marks-lower : {P : State → ℕ → Type 0} {a b : List Bool} {low₀ low : ℕ} (r : ℕ) → r < p →
+      ((words : List ℕ) (q : ℕ) → fallsFrom r (stateIn bytes words) q → P (stateIn bytes words) q) →
+      ((words : List ℕ) (q : ℕ) → P (stateIn bytes words) q → fallsFrom r (stateIn bytes words) q) →
+      Marks (fallsFrom r) bytes first r a b low₀ low → Marks P bytes first p a b low₀ low
+  marks-lower r l to from m =
+      record {
+        long = m .long;
+        only = λ words q o. ⊎-elim (λ x. inl x) (λ x. inr (record { asleep = x .asleep; within = (let z = x .within in omega arith) })) (m .only words q o);
+        lowers = m .lowers;
+        is = λ words z. joined-as (to words) (from words) (m .is words z);
+      }
+
+  -- one set after another
+  marks-then : {P Q : State → ℕ → Type 0} {a b c : List Bool} {low₀ low low′ : ℕ} → ((s : State) → Shut s (P s)) →
+      Marks P bytes first p a b low₀ low → Marks Q bytes first p b c low low′ → Marks (λ s q. P s q ⊎ Q s q) bytes first p a c low₀ low′
+  marks-then shut m n =
+      record {
+        long = n .long ∙ m .long;
+        only = λ words q o. ⊎-elim (m .only words q) (λ x. inr x) (n .only words q o);
+        lowers = λ e. lowered-then (m .lowers e) (n .lowers (m .long ∙ e));
+        is = λ words r. let j = m .is words r in joined-then j (n .is words (ready-joined (shut (stateIn bytes words)) (m .long) j r));
+      }
+
+  -- p does not sleep
+  pub marks-powered : {ms : List Bool} {low : ℕ} → ((words : List ℕ) → ACTIVE ≤ statusAt (stateIn bytes words) p) → Marks (fallsFrom p) bytes first p ms ms low low
+  marks-powered e = marks-same (λ words r q f. let y = e words in let z = target-asleep f in absurd (omega arith))
+
+  -- p's parent r, taken or not: the set of a powered parent is empty
+  pub parent-taken : {r : ℕ} {a b : List Bool} {low₀ low : ℕ} → ((words : List ℕ) → r ≡ getD (stateIn bytes words .wiring .parent) p 0) →
+      ((words : List ℕ) → sleepingParent (stateIn bytes words) p ≡ true) → Marks (fallsFrom r) bytes first r a b low₀ low → Marks (FromParent p) bytes first p a b low₀ low
+  parent-taken {r} e t m =
+      marks-lower r (parent-lower bytes p e t) (λ words q f. record { rests = parent-tests (stateIn bytes words) p .0 (t words) .0; falls = rw (e words) at f })
+      (λ words q f. rw (e words) (f .falls)) m
+
+  pub parent-left : {ms : List Bool} {low : ℕ} → ((words : List ℕ) → sleepingParent (stateIn bytes words) p ≡ false) → Marks (FromParent p) bytes first p ms ms low low
+  parent-left t = marks-same (λ words r q f. never (parent-tests (stateIn bytes words) p .1 (f .rests, target-asleep (f .falls))) (t words))
+
+  -- then its links, then p itself
+  pub marks-whole : {a b c : List Bool} {low₀ low least : ℕ} → p ≤ NONE → ((words : List ℕ) → statusAt (stateIn bytes words) p < ACTIVE) →
+      Marks (FromParent p) bytes first p a b low₀ low → Marks (FromLinks first p (getD first p 0)) bytes first p b c low least →
+      Marks (fallsFrom p) bytes first p a (set c p true) low₀ (if ltb p least then p else least)
+  marks-whole {a} {b} {c} {least = least} few z m n =
+      let u = marks-then parent-shut m n in
+      let fits : length a ≡ ROWS → p < length c = λ e. (let x = none-rows few in let y = u .long in omega arith) in
+      record {
+        long = length-set c p true ∙ u .long;
+        only = λ words q o. ⊎-elim (u .only words q) (λ e. inr (record { asleep = rw e (z words); within = omega arith })) (set-only c p q o);
+        lowers = λ e. lowered-then (u .lowers e) (lowered-set c p least (fits e));
+        is =
+            λ words r.
+            joined-as (whole-to (r .listed) p few (z words)) (whole-from (r .listed) p few (z words)) (joined-then (u .is words r) (joined-set c p (fits (r .long))));
+      }
+
+  -- the links from k on: none
+  pub links-past : {k : ℕ} {ms : List Bool} {low : ℕ} → p ≤ NONE → LINKS ≤ k → Marks (FromLinks first p k) bytes first p ms ms low low
+  links-past few h = marks-same (λ words r q f. let x = f .from in let y = f .below in let z = end-fits (r .listed) p few in absurd (omega arith))
+
+  pub links-none : {k : ℕ} {ms : List Bool} {low : ℕ} → getD first (p + 1) 0 ≤ k → Marks (FromLinks first p k) bytes first p ms ms low low
+  links-none h = marks-same (λ words r q f. let x = f .from in let y = f .below in absurd (omega arith))
+
+  -- the supplier r by link k, taken or not: the set of a powered supplier is empty
+  pub link-taken : (k : ℕ) {r : ℕ} {a b : List Bool} {low₀ low : ℕ} → ((words : List ℕ) → r ≡ getD (stateIn bytes words .wiring .supplier) k 0) →
+      ((words : List ℕ) → sleepingSupplier (stateIn bytes words) p k ≡ true) → Marks (fallsFrom r) bytes first r a b low₀ low → Marks (AtLink p k) bytes first p a b low₀ low
+  link-taken k {r} e t m =
+      marks-lower r (supplier-lower bytes p k e t) (λ words q f. record { leads = supplier-tests (stateIn bytes words) p k .0 (t words) .0; falls = rw (e words) at f })
+      (λ words q f. rw (e words) (f .falls)) m
+
+  pub link-left : {k : ℕ} {ms : List Bool} {low : ℕ} → ((words : List ℕ) → sleepingSupplier (stateIn bytes words) p k ≡ false) → Marks (AtLink p k) bytes first p ms ms low low
+  link-left {k} t = marks-same (λ words r q f. never (supplier-tests (stateIn bytes words) p k .1 (f .leads, target-asleep (f .falls))) (t words))
+
+  -- then the others
+  pub marks-links : {a b c : List Bool} {low₀ low least : ℕ} (k : ℕ) → k < getD first (p + 1) 0 → Marks (AtLink p k) bytes first p a b low₀ low →
+      Marks (FromLinks first p (k + 1)) bytes first p b c low least → Marks (FromLinks first p k) bytes first p a c low₀ least
+  marks-links k l m n =
+      let u = marks-then link-shut m n in
+      record { long = u .long; only = u .only; lowers = u .lowers; is = λ words r. joined-as (links-to k l) (links-from k l) (u .is words r) }

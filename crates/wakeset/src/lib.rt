@@ -1,248 +1,200 @@
-// The wake set of a device, its lowest member, and how many parents stand above a device.
+// The wake set of a device, its lowest member and whether another member is barred, and how many parents stand above a device.
 ghost use mathlib.Core.Path.{_≡_};
-ghost use Prim.Native.Nat.{_≤_, _<_};
-ghost use lib.ListN.{getD};
-ghost use Rattle.model.specs.Limits.{LINKS};
-ghost use Rattle.model.specs.Tests.{first, _and_};
-ghost use Rattle.model.specs.State.{sleeping};
-ghost use Rattle.model.specs.WakeSet.{Falls, marked, wakeMarks};
-ghost use Rattle.model.specs.Table.{wired};
-ghost use Rattle.links.specs.Ascending.{Ascending};
-ghost use Rattle.wakeset.specs.Marks.{leads, onParent, Joined, FromLinks, Ready, Above};
+ghost use mathlib.Core.List.{List};
+ghost use Prim.Native.Nat.{ℕ, _<_};
+ghost use lib.Dec.{ltb};
+ghost use Rattle.model.specs.Logic.{if_then_else_};
+ghost use Rattle.model.specs.State.{ACTIVE, statusAt};
+ghost use Rattle.model.specs.Requests.{barred};
+ghost use Rattle.memory.specs.Layout.{stateIn};
+ghost use Rattle.wakeset.specs.Marks.{sleepingParent, sleepingSupplier, fallsFrom, linksFrom, Marks, IsWakeSet, HeardFrom, IsLowest, Reaches, Above};
+use basics::both;
+use basics::either;
+use basics::row;
+use basics::wide;
+use links::FIRSTS;
+use memory::BYTES;
+use memory::WORDS;
+use memory::depth;
+use memory::devices;
+use memory::error;
+use memory::flags;
+use memory::ignore;
+use memory::parent;
+use memory::status;
+use memory::supplier;
+use model::ACTIVE;
 use model::LINKS;
 use model::ROWS;
 
-fn wide(x: u8) -> usize
-    ensures { λ r. ⌜ r ≡ x ⌝ }
-{
-    x as usize
+// The lowest member of a wake set, n where it has none, and whether a member other than the target is barred.
+pub struct Reach {
+    pub low: u8,
+    pub barred: bool,
 }
 
-fn sleeps(status: &[u8; ROWS], p: u8) -> bool
-    ensures { λ r. ⌜ r ≡ sleeping (getD (now (status .entry)) p 0) ⌝ }
+// ---- marking
+
+// Device p rests on its parent, which counts its children, and the parent sleeps. A parent's number is lower.
+fn on_parent<'a>(bytes: &'a [u8; BYTES], p: u8) -> bool
+    ensures { λ r. ⌜ ((words : List ℕ) → r ≡ sleepingParent (stateIn (now (bytes .entry)) words) p) ⌝ }
 {
-    status[wide(p)] < 2
+    let q = parent(bytes, p);
+    let counted = both(q < p, ignore(bytes, q) == 0);
+    both(counted, status(bytes, q) < ACTIVE)
 }
 
-// Device p rests on its parent: the parent counts its children. A parent's number is lower.
-fn rests_on_parent<'a>(parent: &'a [u8; ROWS], ignore: &'a [u8; ROWS], p: u8) -> bool
-    ensures { λ r. ⌜ r ≡ onParent (now (parent .entry)) (now (ignore .entry)) p ⌝ }
+// Link i, of device p, is a runtime link, and its supplier sleeps. A supplier's number is lower.
+fn on_supplier<'a>(bytes: &'a [u8; BYTES], p: u8, i: usize) -> bool
+    ensures { λ r. ⌜ ((words : List ℕ) → r ≡ sleepingSupplier (stateIn (now (bytes .entry)) words) p i) ⌝ }
 {
-    let q = parent[wide(p)];
-    if p <= q {
-        return false;
-    }
-    ignore[wide(q)] == 0
+    let q = supplier(bytes, i);
+    let runtime = both(q < p, flags(bytes, i) % 2 == 1);
+    both(runtime, status(bytes, q) < ACTIVE)
 }
 
-// Device p rests on its parent, and the parent sleeps.
-fn rests_on_sleeping_parent<'a>(
-    parent: &'a [u8; ROWS],
-    ignore: &'a [u8; ROWS],
-    status: &'a [u8; ROWS],
-    p: u8,
-) -> bool
-    ensures { λ r. ⌜ r ≡ onParent (now (parent .entry)) (now (ignore .entry)) p and sleeping (getD (now (status .entry)) (getD (now (parent .entry)) p 0) 0) ⌝ }
+// The lower of two numbers.
+fn lower(a: u8, b: u8) -> u8
+    ensures { λ r. ⌜ r ≡ (if ltb b a then b else a) ⌝ }
 {
-    if rests_on_parent(parent, ignore, p) {
-        return sleeps(status, parent[wide(p)]);
-    }
-    false
+    if b < a { b } else { a }
 }
 
-// Link i is a runtime link of device p. A supplier's number is lower.
-fn leads_from<'a>(
-    consumer: &'a [u8; LINKS],
-    supplier: &'a [u8; LINKS],
-    flags: &'a [u8; LINKS],
-    p: u8,
-    i: usize,
-) -> bool
-    requires { ⌜ i < LINKS ⌝ }
-    ensures { λ r. ⌜ r ≡ leads (now (consumer .entry)) (now (supplier .entry)) (now (flags .entry)) p i ⌝ }
-{
-    if consumer[i] != p {
-        return false;
-    }
-    if p <= supplier[i] {
-        return false;
-    }
-    flags[i] % 2 == 1
-}
-
-// Link i is a runtime link of device p, and its supplier sleeps.
-fn sleeping_link<'a>(
-    status: &'a [u8; ROWS],
-    consumer: &'a [u8; LINKS],
-    supplier: &'a [u8; LINKS],
-    flags: &'a [u8; LINKS],
-    p: u8,
-    i: usize,
-) -> bool
-    requires { ⌜ i < LINKS ⌝ }
-    ensures { λ r. ⌜ r ≡ leads (now (consumer .entry)) (now (supplier .entry)) (now (flags .entry)) p i and sleeping (getD (now (status .entry)) (getD (now (supplier .entry)) i 0) 0) ⌝ }
-{
-    if leads_from(consumer, supplier, flags, p, i) {
-        return sleeps(status, supplier[i]);
-    }
-    false
-}
-
-// Marks device p and what it rests on, in turn, where they sleep. A device is marked after what it rests on, so a marked device has all
-// of its set marked.
+// Marks the sleeping device p, and in turn the sleeping devices that it rests on. A device is marked after what it rests on, so a marked
+// device has all of its set marked. The answer is the lowest number of low and the new marks.
 fn mark<'a>(
-    parent: &'a [u8; ROWS],
-    ignore: &'a [u8; ROWS],
-    status: &'a [u8; ROWS],
-    consumer: &'a [u8; LINKS],
-    supplier: &'a [u8; LINKS],
-    flags: &'a [u8; LINKS],
-    m: usize,
+    bytes: &'a [u8; BYTES],
+    first: &'a [u16; FIRSTS],
     p: u8,
     marks: &mut [bool; ROWS],
-)
-    requires { ⌜ m ≤ LINKS ⌝ }
-    ensures { λ _. ⌜ (Ready (wired 0 m (now (parent .entry)) (now (ignore .entry)) (now (consumer .entry)) (now (supplier .entry)) (now (flags .entry))) (now (status .entry)) (now (marks .entry)) → Joined (Falls (wired 0 m (now (parent .entry)) (now (ignore .entry)) (now (consumer .entry)) (now (supplier .entry)) (now (flags .entry))) (now (status .entry)) p) (now (marks .entry)) (now (marks .exit))) ⌝ }
+    low: u8,
+) -> u8
+    requires { ⌜ ((words : List ℕ) → statusAt (stateIn (now bytes) words) p < ACTIVE) ⌝ }
+    ensures { λ r. ⌜ Marks (fallsFrom p) (now (bytes .entry)) (now (first .entry)) p (now (marks .entry)) (now (marks .exit)) low r ⌝ }
 {
-    let at = wide(p);
-    if 2 <= status[at] {
-        return;
-    }
+    let at = row(p);
     if marks[at] {
-        return;
+        return low;
     }
-    if rests_on_sleeping_parent(parent, ignore, status, p) {
-        mark(
-            parent,
-            ignore,
-            status,
-            consumer,
-            supplier,
-            flags,
-            m,
-            parent[at],
-            marks,
-        );
+    let mut least = low;
+    if on_parent(bytes, p) {
+        least = mark(bytes, first, parent(bytes, p), marks, low);
     }
-    mark_suppliers(
-        parent,
-        ignore,
-        status,
-        consumer,
-        supplier,
-        flags,
-        m,
-        p,
-        links::first_link(consumer, m, p),
-        marks,
-    );
+    least = mark_suppliers(bytes, first, p, wide(first[at]), marks, least);
     marks[at] = true;
+    lower(least, p)
 }
 
-// Marks the suppliers of p by the links from k on, and what they rest on. Links ascend by consumer: after one of a later device there is
-// none of p.
+// Marks the suppliers of p by its links from k on, and what they rest on. The links of p end where those of the next device begin.
+// The answer is the lowest number of low and the new marks.
 fn mark_suppliers<'a>(
-    parent: &'a [u8; ROWS],
-    ignore: &'a [u8; ROWS],
-    status: &'a [u8; ROWS],
-    consumer: &'a [u8; LINKS],
-    supplier: &'a [u8; LINKS],
-    flags: &'a [u8; LINKS],
-    m: usize,
+    bytes: &'a [u8; BYTES],
+    first: &'a [u16; FIRSTS],
     p: u8,
     k: usize,
     marks: &mut [bool; ROWS],
-)
-    requires { ⌜ m ≤ LINKS ⌝ }
-    ensures { λ _. ⌜ (Ready (wired 0 m (now (parent .entry)) (now (ignore .entry)) (now (consumer .entry)) (now (supplier .entry)) (now (flags .entry))) (now (status .entry)) (now (marks .entry)) → Joined (FromLinks (wired 0 m (now (parent .entry)) (now (ignore .entry)) (now (consumer .entry)) (now (supplier .entry)) (now (flags .entry))) (now (status .entry)) p k) (now (marks .entry)) (now (marks .exit))) ⌝ }
+    low: u8,
+) -> u8
+    ensures { λ r. ⌜ Marks (linksFrom (now (first .entry)) p k) (now (bytes .entry)) (now (first .entry)) p (now (marks .entry)) (now (marks .exit)) low r ⌝ }
 {
-    if m <= k {
-        return;
+    if LINKS <= k {
+        return low;
     }
-    if p < consumer[k] {
-        return;
+    let next = row(p) + 1;
+    if wide(first[next]) <= k {
+        return low;
     }
-    if sleeping_link(status, consumer, supplier, flags, p, k) {
-        mark(
-            parent,
-            ignore,
-            status,
-            consumer,
-            supplier,
-            flags,
-            m,
-            supplier[k],
-            marks,
-        );
+    let mut least = low;
+    if on_supplier(bytes, p, k) {
+        least = mark(bytes, first, supplier(bytes, k), marks, low);
     }
-    mark_suppliers(
-        parent,
-        ignore,
-        status,
-        consumer,
-        supplier,
-        flags,
-        m,
-        p,
-        k + 1,
-        marks,
-    );
+    mark_suppliers(bytes, first, p, k + 1, marks, least)
 }
 
-// The marks of the wake set of device t, of n devices and m links.
-pub fn wake_set<'a>(
-    parent: &'a [u8; ROWS],
-    ignore: &'a [u8; ROWS],
-    status: &'a [u8; ROWS],
-    consumer: &'a [u8; LINKS],
-    supplier: &'a [u8; LINKS],
-    flags: &'a [u8; LINKS],
-    n: u8,
-    m: u16,
-    t: u8,
-) -> [bool; ROWS]
-    ensures { λ r. ⌜ (t < n → m ≤ LINKS → Ascending (now (consumer .entry)) m → r ≡ wakeMarks (wired n m (now (parent .entry)) (now (ignore .entry)) (now (consumer .entry)) (now (supplier .entry)) (now (flags .entry))) (now (status .entry)) t) ⌝ }
+// The marks of the wake set of device t. A powered device's wake set is empty. The lowest number is not asked for.
+pub fn wake_set<'a>(bytes: &'a [u8; BYTES], first: &'a [u16; FIRSTS], t: u8) -> [bool; ROWS]
+    ensures { λ r. ⌜ IsWakeSet (now (bytes .entry)) (now (first .entry)) t r ⌝ }
 {
     let mut marks = [false; ROWS];
-    let links = m as usize;
-    if LINKS < links {
+    if ACTIVE <= status(bytes, t) {
         return marks;
     }
-    mark(
-        parent,
-        ignore,
-        status,
-        consumer,
-        supplier,
-        flags,
-        links,
-        t,
-        &mut marks,
-    );
+    mark(bytes, first, t, &mut marks, t);
     marks
 }
 
-// The lowest marked device below n; n where there is none.
-pub fn lowest(marks: [bool; ROWS], n: u8) -> u8
-    ensures { λ r. ⌜ r ≡ first (marked marks) n ⌝ }
+// ---- what requests ask of a wake set
+
+// Device q has an error or a disable depth above 0.
+pub fn bars<'a>(bytes: &'a [u8; BYTES], words: &'a [u32; WORDS], q: u8) -> bool
+    ensures { λ r. ⌜ r ≡ barred (stateIn (now (bytes .entry)) (now (words .entry))) q ⌝ }
 {
-    let mut q: u8 = 0;
-    while q < n {
-        if marks[wide(q)] {
-            return q;
-        }
-        q += 1;
-    }
-    n
+    either(0 < error(words, q), 0 < depth(bytes, q))
 }
 
-// How many parents stand above device p. A parent's number is lower.
-pub fn parents_above(parent: &[u8; ROWS], p: u8) -> u8
-    ensures { λ r. ⌜ Above (now (parent .entry)) p r ⌝ }
+// A marked device below t is barred. No device below low is marked.
+fn any_barred<'a>(
+    bytes: &'a [u8; BYTES],
+    words: &'a [u32; WORDS],
+    marks: &'a [bool; ROWS],
+    low: u8,
+    t: u8,
+) -> bool
+    ensures { λ r. ⌜ HeardFrom (now (bytes .entry)) (now (words .entry)) (now (marks .entry)) low t r ⌝ }
 {
-    let q = parent[wide(p)];
+    let mut found = false;
+    let mut q = low;
+    while q < t {
+        found = either(both(marks[row(q)], bars(bytes, words, q)), found);
+        q += 1;
+    }
+    found
+}
+
+// The lowest member of the wake set of device t; n where it has none. A powered device's wake set is empty.
+pub fn lowest_member<'a>(bytes: &'a [u8; BYTES], first: &'a [u16; FIRSTS], t: u8) -> u8
+    ensures { λ r. ⌜ IsLowest (now (bytes .entry)) (now (first .entry)) t r ⌝ }
+{
+    if ACTIVE <= status(bytes, t) {
+        return devices(bytes);
+    }
+    let mut marks = [false; ROWS];
+    mark(bytes, first, t, &mut marks, t)
+}
+
+// The lowest member of the wake set of device t, and whether another member is barred.
+pub fn reached<'a>(
+    bytes: &'a [u8; BYTES],
+    words: &'a [u32; WORDS],
+    first: &'a [u16; FIRSTS],
+    t: u8,
+) -> Reach
+    ensures { λ r. ⌜ Reaches (now (bytes .entry)) (now (words .entry)) (now (first .entry)) t r ⌝ }
+{
+    if ACTIVE <= status(bytes, t) {
+        return Reach {
+            low: devices(bytes),
+            barred: false,
+        };
+    }
+    let mut marks = [false; ROWS];
+    let low = mark(bytes, first, t, &mut marks, t);
+    let barred = any_barred(bytes, words, &marks, low, t);
+    Reach {
+        low: low,
+        barred: barred,
+    }
+}
+
+// ---- parents
+
+// How many parents stand above device p. A parent's number is lower.
+pub fn parents_above<'a>(bytes: &'a [u8; BYTES], p: u8) -> u8
+    ensures { λ r. ⌜ Above (now (bytes .entry)) p r ⌝ }
+{
+    let q = parent(bytes, p);
     if p <= q {
         return 0;
     }
-    parents_above(parent, q) + 1
+    parents_above(bytes, q) + 1
 }

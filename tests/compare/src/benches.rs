@@ -1,7 +1,8 @@
 //! Random benches: what the keeper's algorithms and the second implementation say of them.
 
 use crate::deepest;
-use crate::keeper;
+use crate::keeper::{Marks, Memory};
+use crate::layout::{Place, BYTES, WORDS};
 use second::generate::damage::{changed, damaged};
 use second::generate::hosts::{any_host, Session};
 use second::generate::random::Random;
@@ -56,14 +57,23 @@ pub fn reached(random: &mut Random) -> Bench {
     session.bench
 }
 
-/// The verdicts on a bench, on changed ones that stay sound, and on ones with a field or two damaged.
+/// The verdicts on a bench, on changed ones that stay sound, on ones with a field or two damaged,
+/// and on ones with any cell damaged.
 fn verdicts(random: &mut Random, bench: &Bench) -> Result<Vec<bool>, String> {
     let mut benches = vec![bench.clone(), changed(random, bench)];
     benches.extend((0..8).map(|_| damaged(random, bench)));
+    let mut memories: Vec<(Memory, bool)> = benches
+        .iter()
+        .map(|bench| (Memory::from(bench), bench.sound()))
+        .collect();
+    for _ in 0..8 {
+        let memory = damaged_cell(random, &Memory::from(bench));
+        let right = memory.bench().is_some_and(|bench| bench.sound());
+        memories.push((memory, right));
+    }
     let mut verdicts = Vec::new();
-    for (number, bench) in benches.iter().enumerate() {
-        let right = bench.sound();
-        if keeper::sound(bench) != right {
+    for (number, (memory, right)) in memories.into_iter().enumerate() {
+        if memory.sound() != right {
             return Err(format!(
                 "variant {number} is sound: {}, not {right}",
                 !right
@@ -74,49 +84,65 @@ fn verdicts(random: &mut Random, bench: &Bench) -> Result<Vec<bool>, String> {
     Ok(verdicts)
 }
 
+/// A memory with one cell changed in any way: by a little, in one bit, or to any value.
+pub fn damaged_cell(random: &mut Random, memory: &Memory) -> Memory {
+    let place = Place::numbered(random.below((BYTES + WORDS) as u64) as usize);
+    let old = memory.at(place);
+    let any = random.below(1 << 32) as u32;
+    let value = match random.below(6) {
+        0 => old.wrapping_add(1),
+        1 => old.wrapping_sub(1),
+        2 => old ^ (1 << (any % 8)),
+        3 => old ^ (1 << (any % 32)),
+        4 => old.wrapping_add(random.one_of(&[256, 65_536, 1 << 24])),
+        _ => any,
+    };
+    let mut damaged = memory.clone();
+    damaged.put(place, value);
+    damaged
+}
+
 /// How many members the wake set of a device has, or how the two differ.
 pub fn same(bench: &Bench, device: u8) -> Result<u64, String> {
+    let memory = Memory::from(bench);
     let right = bench.wake_set(device.into());
-    let members = listed(&keeper::wake_set(bench, device));
+    let members = listed(&memory.wake_set(device));
     let expected: Vec<usize> = right.devices().collect();
     if members != expected {
         return Err(format!("wake set {members:?}, not {expected:?}"));
     }
-    let lowest = keeper::lowest(bench, device);
+    let lowest = memory.lowest(device);
     let expected = right.lowest().unwrap_or(bench.n.into());
     if usize::from(lowest) != expected {
         return Err(format!("lowest {lowest}, not {expected}"));
     }
-    let above = keeper::parents_above(bench, device);
+    let above = memory.parents_above(device);
     let expected = bench.parents(device.into());
     if u32::from(above) != expected {
         return Err(format!("{above} parents above, not {expected}"));
     }
     for status in 0..4 {
-        same_counts(bench, device, status)?;
+        same_counts(bench, &memory, device, status)?;
     }
     Ok(members.len() as u64)
 }
 
-/// The counts after a change of status are the recounts.
-fn same_counts(bench: &Bench, device: u8, status: u8) -> Result<(), String> {
-    let turned = keeper::set_status(bench, device, status);
+/// The counts after a change of status are the recounts, and nothing else changes.
+fn same_counts(bench: &Bench, memory: &Memory, device: u8, status: u8) -> Result<(), String> {
+    let mut turned = memory.clone();
+    turned.set_status(device, status);
     let mut right = bench.clone();
     right.status[usize::from(device)] = status;
-    let (children, linked) = right.recount();
-    for row in 0..right.status.len() {
-        let expected = (children[row], linked[row]);
-        let counts = (u16::from(turned.children[row]), turned.linked[row]);
-        if counts != expected || turned.status[row] != right.status[row] {
-            return Err(format!(
-                "status {status}, row {row}: counts {counts:?}, not {expected:?}"
-            ));
-        }
+    (right.children, right.linked) = right.recount();
+    let right = Memory::from(&right);
+    if turned != right {
+        let what = turned.difference(&right);
+        return Err(format!("status {status}: {what}"));
     }
     Ok(())
 }
 
 /// The marked devices.
-fn listed(marks: &keeper::Marks) -> Vec<usize> {
+fn listed(marks: &Marks) -> Vec<usize> {
     (0..marks.len()).filter(|&device| marks[device]).collect()
 }

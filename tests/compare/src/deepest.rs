@@ -2,7 +2,7 @@
 
 use crate::benches;
 use crate::feed;
-use crate::keeper::Columns;
+use crate::keeper::Memory;
 use second::Bench;
 use std::thread::Builder;
 
@@ -60,7 +60,7 @@ fn wake(mut bench: Bench) -> Result<(), String> {
     let enabled = (0..=LAST).flat_map(|p| [1, p, 0, 0]);
     let resumed = (0..=LAST).flat_map(|p| [13, p, 0, 0]);
     let log: Vec<u8> = enabled.chain([9, LAST, 0, 0]).chain(resumed).collect();
-    let mut keeper = Columns::from(&bench);
+    let mut keeper = Memory::from(&bench);
     let replies = feed::same(&mut keeper, &mut bench, &log, &vec![0; log.len()])?;
     match replies {
         Ok(replies) if replies.ends_with(&[0, LAST, 0, 0]) => Ok(()),

@@ -2,9 +2,9 @@
 //! each piece is answered, the whole reply buffer and the whole bench of both keepers.
 
 use crate::answers::{self, ENOUGH};
-use crate::keeper::Columns;
+use crate::benches::damaged_cell;
+use crate::keeper::Memory;
 use crate::logs::{Cut, Log};
-use crate::records::difference;
 use crate::starts::{self, Start};
 use second::generate::damage::damaged;
 use second::generate::random::Random;
@@ -75,7 +75,7 @@ impl Noise {
 
 /// A bench of each keeper, and the joined replies.
 struct Pair<'a> {
-    keeper: Columns,
+    keeper: Memory,
     second: Bench,
     replies: Vec<u8>,
     noise: &'a Noise,
@@ -85,7 +85,7 @@ struct Pair<'a> {
 impl<'a> Pair<'a> {
     fn new(bench: Bench, noise: &'a Noise, tally: &'a mut Tally) -> Pair<'a> {
         Pair {
-            keeper: Columns::from(&bench),
+            keeper: Memory::from(&bench),
             second: bench,
             replies: Vec::new(),
             noise,
@@ -157,13 +157,21 @@ impl<'a> Pair<'a> {
         }
     }
 
-    /// Any piece on a damaged bench. Some are still sound, and may take it.
+    /// Any piece on a bench with a field or two or any cell damaged. Some are still sound, and may
+    /// take it.
     fn damaged(&mut self, random: &mut Random, next: &[u8]) -> Result<(), String> {
-        let mut second = damaged(random, &self.second);
-        let mut keeper = Columns::from(&second);
+        let mut keeper = if random.percent(50) {
+            Memory::from(&damaged(random, &self.second))
+        } else {
+            damaged_cell(random, &self.keeper)
+        };
         let piece = self.stray(random, next);
         let room = random.one_of(&[0, piece.len(), piece.len() + 4]);
         let buffer = self.noise.bytes(random, room);
+        let Some(mut second) = keeper.bench() else {
+            unsound(&mut keeper, piece, buffer)?;
+            return self.tally.refused(21);
+        };
         match same(&mut keeper, &mut second, piece, buffer)? {
             Ok(_) => Ok(()),
             Err(number) => self.tally.refused(number),
@@ -171,10 +179,22 @@ impl<'a> Pair<'a> {
     }
 }
 
+/// A bench that the second has no fields for is not sound: a piece is refused with 21, and bench
+/// and buffer stay.
+fn unsound(keeper: &mut Memory, piece: &[u8], buffer: &[u8]) -> Result<(), String> {
+    let before = keeper.clone();
+    let mut replies = buffer.to_vec();
+    let answer = keeper.feed(piece, &mut replies);
+    if answer != Err(21) || *keeper != before || replies != buffer {
+        return Err(format!("answer {answer:?} for a value beyond its field"));
+    }
+    Ok(())
+}
+
 /// One piece to both, with a buffer of these bytes: the replies, or the number that both refuse it
 /// with; else how the two differ.
 pub fn same(
-    keeper: &mut Columns,
+    keeper: &mut Memory,
     second: &mut Bench,
     piece: &[u8],
     buffer: &[u8],
@@ -190,8 +210,9 @@ pub fn same(
         let (byte, right) = (replies[at], right[at]);
         return Err(format!("byte {at} of the replies: {byte}, not {right}"));
     }
-    if *keeper != Columns::from(&*second) {
-        return Err(difference(&keeper.bench(second), second));
+    let expected = Memory::from(&*second);
+    if *keeper != expected {
+        return Err(keeper.difference(&expected));
     }
     let written = 4 * answer.unwrap_or(0);
     if replies[written..] != buffer[written..] {

@@ -1,137 +1,42 @@
-//! The keeper's exported functions, made safe to call.
+//! The keeper's exported functions, made safe to call, and the memory that they work on.
 
-use second::Bench;
-
-/// The rows of a column.
-pub const ROWS: usize = 256;
-
-/// One column of a bench.
-pub type Column = [u16; ROWS];
-
-// A slice is passed as its start and its length.
-extern "C" {
-    fn keeper_load(start: *const u8, length: usize) -> u32;
-    fn keeper_loaded_column(start: *const u8, length: usize, which: u8, out: *mut Column);
-}
-
-/// The number and the index a table is refused with; 0 and 0 where it is taken.
-pub fn load(table: &[u8]) -> (u32, u32) {
-    // SAFETY: the function reads the bytes of the slice and nothing else.
-    let code = unsafe { keeper_load(table.as_ptr(), table.len()) };
-    (code % 256, code / 256)
-}
-
-/// One column of the bench that loading a table leaves, by its number.
-pub fn loaded_column(table: &[u8], which: u8) -> Column {
-    // No row is right unless it is written.
-    let mut column = [u16::MAX; ROWS];
-    // SAFETY: the function reads the bytes of the slice, writes the column and
-    // nothing else.
-    unsafe { keeper_loaded_column(table.as_ptr(), table.len(), which, &mut column) };
-    column
-}
-
-type DeviceBytes = [u8; ROWS];
-type LinkBytes = [u8; 128];
+use crate::layout::{field, layout, Place, BYTES, FIELDS, WORDS};
+use second::{Bench, DEVICE_ROWS};
 
 /// The marks of a set of devices.
-pub type Marks = [bool; ROWS];
+pub type Marks = [bool; DEVICE_ROWS];
 
-// A reference to an array is passed as its start.
+/// A bench as the keeper is lent it.
+#[derive(Clone, PartialEq)]
+pub struct Memory {
+    bytes: [u8; BYTES],
+    words: [u32; WORDS],
+}
+
+type Bytes = [u8; BYTES];
+type Words = [u32; WORDS];
+
+// A reference to an array is passed as its start, a slice as its start and its length.
 extern "C" {
-    fn keeper_wake_set(
-        parent: &DeviceBytes,
-        ignore: &DeviceBytes,
-        status: &DeviceBytes,
-        consumer: &LinkBytes,
-        supplier: &LinkBytes,
-        flags: &LinkBytes,
-        n: u8,
-        m: u16,
-        t: u8,
-        out: &mut Marks,
-    );
-    fn keeper_lowest(
-        parent: &DeviceBytes,
-        ignore: &DeviceBytes,
-        status: &DeviceBytes,
-        consumer: &LinkBytes,
-        supplier: &LinkBytes,
-        flags: &LinkBytes,
-        n: u8,
-        m: u16,
-        t: u8,
-    ) -> u8;
-    fn keeper_parents_above(parent: &DeviceBytes, p: u8) -> u8;
-    fn keeper_sound(
-        n: u8,
-        m: u16,
-        parent: &DeviceBytes,
-        ignore: &DeviceBytes,
-        consumer: &LinkBytes,
-        supplier: &LinkBytes,
-        flags: &LinkBytes,
-        status: &DeviceBytes,
-        holds: &Column,
-        depth: &DeviceBytes,
-        error: &Column,
-        children: &DeviceBytes,
-        linked: &Column,
-        callback: u8,
-        asked: u8,
-        target: u8,
-        carried: &[u8; 3],
-        used: u8,
-    ) -> bool;
-    fn keeper_set_status(
-        parent: &DeviceBytes,
-        consumer: &LinkBytes,
-        supplier: &LinkBytes,
-        flags: &LinkBytes,
-        m: u16,
-        status: &mut DeviceBytes,
-        children: &mut DeviceBytes,
-        linked: &mut Column,
-        p: u8,
-        v: u8,
-    );
-    fn keeper_step(
-        parent: &DeviceBytes,
-        ignore: &mut DeviceBytes,
-        consumer: &LinkBytes,
-        supplier: &LinkBytes,
-        flags: &LinkBytes,
-        n: u8,
-        m: u16,
-        status: &mut DeviceBytes,
-        holds: &mut Column,
-        depth: &mut DeviceBytes,
-        error: &mut Column,
-        children: &mut DeviceBytes,
-        linked: &mut Column,
-        callback: u8,
-        asked: u8,
-        target: u8,
-        kind: u8,
-        device: u8,
-        value: u16,
-    ) -> u64;
+    fn keeper_bytes() -> u32;
+    fn keeper_words() -> u32;
+    fn keeper_cell(bytes: &Bytes, words: &Words, field: u8, row: u16) -> u32;
+    fn keeper_set_cell(bytes: &mut Bytes, words: &mut Words, field: u8, row: u16, value: u32);
+    fn keeper_wake_set(bytes: &Bytes, words: &Words, t: u8, out: &mut Marks);
+    fn keeper_lowest(bytes: &Bytes, words: &Words, t: u8) -> u8;
+    fn keeper_parents_above(bytes: &Bytes, p: u8) -> u8;
+    fn keeper_set_status(bytes: &mut Bytes, words: &mut Words, p: u8, v: u8);
+    fn keeper_sound(bytes: &Bytes, words: &Words) -> bool;
+    fn keeper_step(bytes: &mut Bytes, words: &mut Words, kind: u8, device: u8, value: u16) -> u32;
+    fn keeper_load(
+        table: *const u8,
+        table_length: usize,
+        bytes: &mut Bytes,
+        words: &mut Words,
+    ) -> u32;
     fn keeper_feed(
-        parent: &DeviceBytes,
-        ignore: &mut DeviceBytes,
-        consumer: &LinkBytes,
-        supplier: &LinkBytes,
-        flags: &LinkBytes,
-        n: u8,
-        m: u16,
-        status: &mut DeviceBytes,
-        holds: &mut Column,
-        depth: &mut DeviceBytes,
-        error: &mut Column,
-        children: &mut DeviceBytes,
-        linked: &mut Column,
-        carried: &mut [u8; 3],
-        scalars: &mut [u8; 4],
+        bytes: &mut Bytes,
+        words: &mut Words,
         piece: *const u8,
         piece_length: usize,
         replies: *mut u8,
@@ -139,234 +44,86 @@ extern "C" {
     ) -> u32;
 }
 
-/// The wake set of a device.
-pub fn wake_set(b: &Bench, device: u8) -> Marks {
-    let mut marks = [false; ROWS];
-    // SAFETY: the function reads the columns, writes the marks and nothing else.
-    unsafe {
-        keeper_wake_set(
-            &b.parent,
-            &b.ignore,
-            &b.status,
-            &b.consumer,
-            &b.supplier,
-            &b.flags,
-            b.n,
-            b.m.into(),
-            device,
-            &mut marks,
-        );
-    }
-    marks
+/// How many bytes and words a bench has, by the keeper.
+pub fn sizes() -> (u32, u32) {
+    // SAFETY: the functions only answer.
+    unsafe { (keeper_bytes(), keeper_words()) }
 }
 
-/// The lowest member of the wake set of a device; n where it has none.
-pub fn lowest(b: &Bench, device: u8) -> u8 {
-    // SAFETY: the function reads the columns and nothing else.
-    unsafe {
-        keeper_lowest(
-            &b.parent,
-            &b.ignore,
-            &b.status,
-            &b.consumer,
-            &b.supplier,
-            &b.flags,
-            b.n,
-            b.m.into(),
-            device,
-        )
-    }
-}
-
-/// How many parents stand above a device.
-pub fn parents_above(b: &Bench, device: u8) -> u8 {
-    // SAFETY: the function reads the column and nothing else.
-    unsafe { keeper_parents_above(&b.parent, device) }
-}
-
-/// What a change of status leaves: the status, the child counts and the link counts.
-pub struct Turned {
-    pub status: DeviceBytes,
-    pub children: DeviceBytes,
-    pub linked: Column,
-}
-
-/// A bench's counts after the status of a device becomes v. Child counts have a byte here.
-pub fn set_status(b: &Bench, device: u8, v: u8) -> Turned {
-    let mut turned = Turned {
-        status: b.status,
-        children: b.children.map(|count| count as u8),
-        linked: b.linked,
-    };
-    // SAFETY: the function reads the columns, writes the three and nothing else.
-    unsafe {
-        keeper_set_status(
-            &b.parent,
-            &b.consumer,
-            &b.supplier,
-            &b.flags,
-            b.m.into(),
-            &mut turned.status,
-            &mut turned.children,
-            &mut turned.linked,
-            device,
-            v,
-        );
-    }
-    turned
-}
-
-/// Whether a bench is sound. Child counts have a byte here.
-pub fn sound(b: &Bench) -> bool {
-    let children = b.children.map(|count| count as u8);
-    // SAFETY: the function reads the columns and nothing else.
-    unsafe {
-        keeper_sound(
-            b.n,
-            b.m.into(),
-            &b.parent,
-            &b.ignore,
-            &b.consumer,
-            &b.supplier,
-            &b.flags,
-            &b.status,
-            &b.holds,
-            &b.depth,
-            &b.error,
-            &children,
-            &b.linked,
-            b.callback,
-            b.asked,
-            b.target,
-            &b.carried,
-            b.count,
-        )
-    }
-}
-
-/// One record on a bench: its reply. Child counts have a byte here.
-pub fn step(b: &mut Bench, record: [u8; 4]) -> [u8; 4] {
-    let [kind, device, low, high] = record;
-    let mut children = b.children.map(|count| count as u8);
-    // SAFETY: the function reads the columns, writes the seven lent for that and
-    // nothing else.
-    let answer = unsafe {
-        keeper_step(
-            &b.parent,
-            &mut b.ignore,
-            &b.consumer,
-            &b.supplier,
-            &b.flags,
-            b.n,
-            b.m.into(),
-            &mut b.status,
-            &mut b.holds,
-            &mut b.depth,
-            &mut b.error,
-            &mut children,
-            &mut b.linked,
-            b.callback,
-            b.asked,
-            b.target,
-            kind,
-            device,
-            u16::from_le_bytes([low, high]),
-        )
-    };
-    b.children = children.map(u16::from);
-    let [kind, device, low, high, callback, asked, target, rest] = answer.to_le_bytes();
-    assert_eq!(rest, 0, "the answer has seven bytes");
-    (b.callback, b.asked, b.target) = (callback, asked, target);
-    [kind, device, low, high]
-}
-
-/// A bench as the keeper is lent it. Child counts have a byte here.
-#[derive(Clone, PartialEq)]
-pub struct Columns {
-    parent: DeviceBytes,
-    ignore: DeviceBytes,
-    consumer: LinkBytes,
-    supplier: LinkBytes,
-    flags: LinkBytes,
-    n: u8,
-    m: u16,
-    status: DeviceBytes,
-    holds: Column,
-    depth: DeviceBytes,
-    error: Column,
-    children: DeviceBytes,
-    linked: Column,
-    carried: [u8; 3],
-    /// The open callback's kind, the device asked and the target, and how many
-    /// bytes are carried.
-    scalars: [u8; 4],
-}
-
-impl From<&Bench> for Columns {
-    fn from(b: &Bench) -> Columns {
-        Columns {
-            parent: b.parent,
-            ignore: b.ignore,
-            consumer: b.consumer,
-            supplier: b.supplier,
-            flags: b.flags,
-            n: b.n,
-            m: b.m.into(),
-            status: b.status,
-            holds: b.holds,
-            depth: b.depth,
-            error: b.error,
-            children: b.children.map(|count| count as u8),
-            linked: b.linked,
-            carried: b.carried,
-            scalars: [b.callback, b.asked, b.target, b.count],
-        }
-    }
-}
-
-impl Columns {
-    /// The bench that has these columns and the table of another.
-    pub fn bench(&self, table: &Bench) -> Bench {
-        let [callback, asked, target, count] = self.scalars;
-        Bench {
-            ignore: self.ignore,
-            status: self.status,
-            holds: self.holds,
-            depth: self.depth,
-            error: self.error,
-            children: self.children.map(u16::from),
-            linked: self.linked,
-            callback,
-            asked,
-            target,
-            carried: self.carried,
-            count,
-            ..table.clone()
-        }
+/// The keeper's functions. Each reads the arrays and the slices that it is lent, writes those lent
+/// to be written, and nothing else: that is why the calls are safe.
+impl Memory {
+    /// A cell by its field and row; 0 where there is none.
+    pub fn cell(&self, field: u8, row: u16) -> u32 {
+        // SAFETY: see above.
+        unsafe { keeper_cell(&self.bytes, &self.words, field, row) }
     }
 
-    /// A piece of log: how many replies were written, or the number of the
-    /// refusal, which is the whole answer.
+    /// Sets a cell, of a byte to the low byte of the value; nothing where there is none.
+    pub fn set_cell(&mut self, field: u8, row: u16, value: u32) {
+        // SAFETY: see above.
+        unsafe { keeper_set_cell(&mut self.bytes, &mut self.words, field, row, value) };
+    }
+
+    /// The wake set of a device.
+    pub fn wake_set(&self, device: u8) -> Marks {
+        // No mark is right unless it is written.
+        let mut marks = [true; DEVICE_ROWS];
+        // SAFETY: see above.
+        unsafe { keeper_wake_set(&self.bytes, &self.words, device, &mut marks) };
+        marks
+    }
+
+    /// The lowest member of the wake set of a device; n where it has none.
+    pub fn lowest(&self, device: u8) -> u8 {
+        // SAFETY: see above.
+        unsafe { keeper_lowest(&self.bytes, &self.words, device) }
+    }
+
+    /// How many parents stand above a device.
+    pub fn parents_above(&self, device: u8) -> u8 {
+        // SAFETY: see above.
+        unsafe { keeper_parents_above(&self.bytes, device) }
+    }
+
+    /// The status of a device becomes v, and the counts follow.
+    pub fn set_status(&mut self, device: u8, v: u8) {
+        // SAFETY: see above.
+        unsafe { keeper_set_status(&mut self.bytes, &mut self.words, device, v) };
+    }
+
+    /// Whether the bench is sound.
+    pub fn sound(&self) -> bool {
+        // SAFETY: see above.
+        unsafe { keeper_sound(&self.bytes, &self.words) }
+    }
+
+    /// One record: its reply.
+    pub fn step(&mut self, record: [u8; 4]) -> [u8; 4] {
+        let [kind, device, low, high] = record;
+        let value = u16::from_le_bytes([low, high]);
+        // SAFETY: see above.
+        let reply = unsafe { keeper_step(&mut self.bytes, &mut self.words, kind, device, value) };
+        reply.to_le_bytes()
+    }
+
+    /// What loading a table leaves in this memory: the number and the index that it is refused
+    /// with, 0 and 0 where it is taken.
+    pub fn load(&mut self, table: &[u8]) -> (u32, u32) {
+        let (start, length) = (table.as_ptr(), table.len());
+        // SAFETY: see above.
+        let code = unsafe { keeper_load(start, length, &mut self.bytes, &mut self.words) };
+        (code % 256, code / 256)
+    }
+
+    /// A piece of log: how many replies were written, or the number of the refusal, which is the
+    /// whole answer.
     pub fn feed(&mut self, piece: &[u8], replies: &mut [u8]) -> Result<usize, u32> {
-        // SAFETY: the function reads the columns and the piece, writes the seven
-        // columns lent for that, the carried bytes, the scalars and the replies, and nothing else.
+        // SAFETY: see above.
         let answer = unsafe {
             keeper_feed(
-                &self.parent,
-                &mut self.ignore,
-                &self.consumer,
-                &self.supplier,
-                &self.flags,
-                self.n,
-                self.m,
-                &mut self.status,
-                &mut self.holds,
-                &mut self.depth,
-                &mut self.error,
-                &mut self.children,
-                &mut self.linked,
-                &mut self.carried,
-                &mut self.scalars,
+                &mut self.bytes,
+                &mut self.words,
                 piece.as_ptr(),
                 piece.len(),
                 replies.as_mut_ptr(),
@@ -377,5 +134,139 @@ impl Columns {
             0 => Ok(answer as usize / 256),
             _ => Err(answer),
         }
+    }
+}
+
+/// The cells, by the places that `layout::probe` has found.
+impl Memory {
+    /// Every bit of every cell is this one.
+    pub fn filled(bit: bool) -> Memory {
+        Memory {
+            bytes: [if bit { u8::MAX } else { 0 }; BYTES],
+            words: [if bit { u32::MAX } else { 0 }; WORDS],
+        }
+    }
+
+    /// The places of the cells that are not zero.
+    pub fn set_places(&self) -> Vec<Place> {
+        let bytes = (0..BYTES).filter(|&at| self.bytes[at] != 0);
+        let words = (0..WORDS).filter(|&at| self.words[at] != 0);
+        bytes
+            .map(Place::Byte)
+            .chain(words.map(Place::Word))
+            .collect()
+    }
+
+    /// What stands at a place.
+    pub fn at(&self, place: Place) -> u32 {
+        match place {
+            Place::Byte(at) => self.bytes[at].into(),
+            Place::Word(at) => self.words[at],
+        }
+    }
+
+    /// Puts a value at a place, of a byte the low byte.
+    pub fn put(&mut self, place: Place, value: u32) {
+        match place {
+            Place::Byte(at) => self.bytes[at] = value as u8,
+            Place::Word(at) => self.words[at] = value,
+        }
+    }
+
+    /// Puts values into the rows of a field. None of them is beyond the field's cells.
+    fn fill<T: Copy + Into<u16>>(&mut self, field: usize, values: &[T]) {
+        match layout().start(field) {
+            Place::Byte(at) => {
+                for (cell, value) in self.bytes[at..].iter_mut().zip(values) {
+                    *cell = (*value).into() as u8;
+                }
+            }
+            Place::Word(at) => {
+                for (cell, value) in self.words[at..].iter_mut().zip(values) {
+                    *cell = u32::from((*value).into());
+                }
+            }
+        }
+    }
+
+    /// The rows of a field; none where a value is beyond the second's field.
+    fn column<T: Copy + Default + TryFrom<u32>, const N: usize>(
+        &self,
+        field: usize,
+    ) -> Option<[T; N]> {
+        let mut column = [T::default(); N];
+        for (row, value) in column.iter_mut().enumerate() {
+            *value = self.at(layout().place(field, row)).try_into().ok()?;
+        }
+        Some(column)
+    }
+
+    /// A number of the whole bench.
+    fn number<T: Copy + Default + TryFrom<u32>>(&self, field: usize) -> Option<T> {
+        self.column(field).map(|[value]: [T; 1]| value)
+    }
+
+    /// The bench that stands here, in the fields of the second; none where a value is beyond its
+    /// field there, and so beyond every limit.
+    pub fn bench(&self) -> Option<Bench> {
+        Some(Bench {
+            n: self.number(field::N)?,
+            m: self.number(field::M)?,
+            parent: self.column(field::PARENT)?,
+            ignore: self.column(field::IGNORE)?,
+            status: self.column(field::STATUS)?,
+            holds: self.column(field::HOLDS)?,
+            depth: self.column(field::DEPTH)?,
+            error: self.column(field::ERROR)?,
+            children: self.column(field::CHILDREN)?,
+            linked: self.column(field::LINKED)?,
+            consumer: self.column(field::CONSUMER)?,
+            supplier: self.column(field::SUPPLIER)?,
+            flags: self.column(field::FLAGS)?,
+            callback: self.number(field::CALLBACK)?,
+            asked: self.number(field::ASKED)?,
+            target: self.number(field::TARGET)?,
+            carried: self.column(field::CARRIED)?,
+            count: self.number(field::USED)?,
+        })
+    }
+
+    /// The first cell in which this memory is not the right one.
+    pub fn difference(&self, right: &Memory) -> String {
+        for (number, field) in FIELDS.iter().enumerate() {
+            for row in 0..field.rows {
+                let place = layout().place(number, row);
+                let (value, right) = (self.at(place), right.at(place));
+                if value != right {
+                    return format!("{}, row {row}: {value}, not {right}", field.name);
+                }
+            }
+        }
+        "the benches do not differ".to_string()
+    }
+}
+
+impl From<&Bench> for Memory {
+    fn from(b: &Bench) -> Memory {
+        let mut memory = Memory::filled(false);
+        memory.fill(field::PARENT, &b.parent);
+        memory.fill(field::IGNORE, &b.ignore);
+        memory.fill(field::STATUS, &b.status);
+        memory.fill(field::DEPTH, &b.depth);
+        memory.fill(field::CHILDREN, &b.children);
+        memory.fill(field::CONSUMER, &b.consumer);
+        memory.fill(field::SUPPLIER, &b.supplier);
+        memory.fill(field::FLAGS, &b.flags);
+        memory.fill(field::HOLDS, &b.holds);
+        memory.fill(field::ERROR, &b.error);
+        memory.fill(field::LINKED, &b.linked);
+        memory.fill(field::N, &[b.n]);
+        memory.fill(field::M, &[b.m]);
+        memory.fill(field::CALLBACK, &[b.callback]);
+        memory.fill(field::ASKED, &[b.asked]);
+        memory.fill(field::TARGET, &[b.target]);
+        memory.fill(field::USED, &[b.count]);
+        memory.fill(field::CARRIED, &b.carried);
+        memory
     }
 }

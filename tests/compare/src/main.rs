@@ -13,6 +13,7 @@ mod benches;
 mod deepest;
 mod feed;
 mod keeper;
+mod layout;
 mod logs;
 mod records;
 mod speed;
@@ -24,6 +25,10 @@ use std::process::ExitCode;
 fn main() -> ExitCode {
     let words: Vec<String> = std::env::args().skip(1).collect();
     let words: Vec<&str> = words.iter().map(String::as_str).collect();
+    if let Err(what) = layout::probe() {
+        println!("the memory: {what}");
+        return ExitCode::FAILURE;
+    }
     let Some(outcome) = outcome(&words) else {
         eprintln!("usage: compare tables|benches|records|feed SEED COUNT, or compare bench");
         return ExitCode::from(2);

@@ -1,9 +1,9 @@
 //! Random logs from random sound benches, a record at a time: the reply and the whole bench of both keepers.
 
 use crate::answers::Tally;
-use crate::keeper;
+use crate::keeper::Memory;
+use crate::layout::{self, field};
 use crate::starts::{self, Start};
-use crate::tables;
 use second::generate::hosts::{any_host, next_record, write, Host};
 use second::generate::random::Random;
 use second::{Bench, MAX_HOLDS, NO_CALLBACK};
@@ -47,7 +47,7 @@ fn most_used() -> Result<(), String> {
     pair.send_each((0..64).map(|device| write(10, device, 0)))?;
     pair.send(write(1, 0, 0))?;
     for consumer in 1..64 {
-        pair.keeper.holds[0] = MAX_HOLDS;
+        layout::set(&mut pair.keeper, field::HOLDS, 0, MAX_HOLDS.into());
         pair.second.holds[0] = MAX_HOLDS;
         pair.send_each([8, 7, 6, 8, 3, 4, 3, 9].map(|kind| write(kind, 0, 0)))?;
         pair.send(write(11, consumer, 0))?;
@@ -86,7 +86,7 @@ pub fn enabling(random: &mut Random, bench: &Bench) -> Vec<[u8; 4]> {
 
 /// A bench of each keeper.
 struct Pair<'a> {
-    keeper: Bench,
+    keeper: Memory,
     second: Bench,
     tally: &'a mut Tally,
 }
@@ -94,7 +94,7 @@ struct Pair<'a> {
 impl<'a> Pair<'a> {
     fn new(bench: Bench, tally: &'a mut Tally) -> Pair<'a> {
         Pair {
-            keeper: bench.clone(),
+            keeper: Memory::from(&bench),
             second: bench,
             tally,
         }
@@ -102,17 +102,18 @@ impl<'a> Pair<'a> {
 
     /// One record to both.
     fn send(&mut self, record: [u8; 4]) -> Result<(), String> {
+        let before = self.second.clone();
         let right = self.second.record(record);
-        // The keeper's bench has yet to change.
-        self.tally.add(&self.keeper, record, right);
-        let reply = keeper::step(&mut self.keeper, record);
+        self.tally.add(&before, record, right);
+        let reply = self.keeper.step(record);
         if reply != right {
             return Err(format!(
                 "{record:02x?}: reply {reply:02x?}, not {right:02x?}"
             ));
         }
-        if self.keeper != self.second {
-            let what = difference(&self.keeper, &self.second);
+        let second = Memory::from(&self.second);
+        if self.keeper != second {
+            let what = self.keeper.difference(&second);
             return Err(format!("{record:02x?}: {what}"));
         }
         Ok(())
@@ -125,27 +126,13 @@ impl<'a> Pair<'a> {
 
     /// Both say that the bench is sound.
     fn sound(&self) -> Result<(), String> {
-        match (keeper::sound(&self.keeper), self.second.sound()) {
+        match (self.keeper.sound(), self.second.sound()) {
             (true, true) => Ok(()),
             verdicts => Err(format!(
                 "sound by the keeper and by the second: {verdicts:?}"
             )),
         }
     }
-}
-
-/// The first field in which two benches differ.
-pub fn difference(bench: &Bench, right: &Bench) -> String {
-    for (which, name) in (0..).zip(tables::NAMES) {
-        let column = tables::expected(bench, which);
-        let expected = tables::expected(right, which);
-        for (row, (value, right)) in column.iter().zip(expected).enumerate() {
-            if *value != right {
-                return format!("{name}, row {row}: {value}, not {right}");
-            }
-        }
-    }
-    "the benches differ".to_string()
 }
 
 /// Who writes the records of a log.

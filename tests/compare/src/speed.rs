@@ -1,6 +1,6 @@
 //! How fast the keeper is beside the second implementation: one log, given to both in turn.
 
-use crate::keeper::Columns;
+use crate::keeper::Memory;
 use second::generate::hosts::write;
 use second::generate::random::Random;
 use second::generate::tables::Draft;
@@ -19,16 +19,16 @@ const RUNS: usize = 101;
 /// Times both keepers: the lines to print, or how they differ.
 pub fn compare() -> Result<String, String> {
     let (bench, log) = log();
-    let columns = Columns::from(&bench);
+    let memory = Memory::from(&bench);
     let (mut right, mut replies) = (Vec::<u8>::new(), Vec::<u8>::new());
     give(&bench, Bench::feed, &log, |piece| right.extend(piece))?;
-    give(&columns, Columns::feed, &log, |piece| replies.extend(piece))?;
+    give(&memory, Memory::feed, &log, |piece| replies.extend(piece))?;
     if replies != right || replies.len() != log.len() {
         return Err("bench: the replies differ".to_string());
     }
     let (mut ours, mut second) = (Vec::new(), Vec::new());
     for _ in 0..RUNS {
-        ours.push(time(&columns, Columns::feed, &log)?);
+        ours.push(time(&memory, Memory::feed, &log)?);
         second.push(time(&bench, Bench::feed, &log)?);
     }
     let (ours, second) = (Times::of(ours), Times::of(second));

@@ -1,16 +1,10 @@
 //! Tables, loaded by the keeper and by the second implementation.
 
-use crate::keeper::{self, Column, ROWS};
+use crate::keeper::Memory;
 use second::generate::random::Random;
 use second::generate::tables;
 use second::{Bench, Refusal};
 use std::fmt;
-
-/// The columns by number.
-pub const NAMES: [&str; 12] = [
-    "parent", "ignore", "status", "holds", "depth", "error", "children", "linked", "consumer",
-    "supplier", "flags", "scalars",
-];
 
 /// How many tables were answered with each number, 0 for taken.
 pub struct Tally {
@@ -58,7 +52,7 @@ pub fn compare(seed: u64, count: u64) -> Result<Tally, Difference> {
         } else {
             tables::of_any_size(&mut random)
         };
-        match same(&table, number) {
+        match same(&table) {
             Ok(answer) => answers[answer] += 1,
             Err(what) => {
                 return Err(Difference {
@@ -74,40 +68,27 @@ pub fn compare(seed: u64, count: u64) -> Result<Tally, Difference> {
 }
 
 /// The number that both answer a table with, 0 for taken, or how they differ.
-fn same(table: &[u8], number: u64) -> Result<usize, String> {
+fn same(table: &[u8]) -> Result<usize, String> {
     let loaded = second::load(table);
     let answer = match &loaded {
         Ok(_) => (0, 0),
         Err(Refusal { number, index }) => (u32::from(*number), u32::from(*index)),
     };
-    let answered = keeper::load(table);
+    // No cell that must be zero is right unless it is written.
+    let mut memory = Memory::filled(true);
+    let answered = memory.load(table);
     if answered != answer {
-        return Err(differ(&shown(answered), &shown(answer)));
+        return Err(format!(
+            "keeper: {}\nsecond: {}",
+            shown(answered),
+            shown(answer)
+        ));
     }
-    let bench = loaded.unwrap_or_else(|_| Bench::empty());
-    for (which, name) in (0..).zip(NAMES) {
-        same_column(table, which, name, &expected(&bench, which))?;
+    let right = Memory::from(&loaded.unwrap_or_else(|_| Bench::empty()));
+    if memory != right {
+        return Err(memory.difference(&right));
     }
-    // Each number past the last column, in turn.
-    let beyond = NAMES.len() as u64 + number % (256 - NAMES.len() as u64);
-    same_column(table, beyond as u8, "no column", &[0; ROWS])?;
     Ok(answer.0 as usize)
-}
-
-fn same_column(table: &[u8], which: u8, name: &str, right: &Column) -> Result<(), String> {
-    let column = keeper::loaded_column(table, which);
-    if column == *right {
-        return Ok(());
-    }
-    let row = (0..ROWS).find(|&row| column[row] != right[row]);
-    let row = row.expect("the columns differ");
-    let at = |value: u16| format!("{name} ({which}), row {row}: {value}");
-    Err(differ(&at(column[row]), &at(right[row])))
-}
-
-/// Both answers.
-fn differ(keeper: &str, second: &str) -> String {
-    format!("keeper: {keeper}\nsecond: {second}")
 }
 
 /// An answer in words.
@@ -116,46 +97,4 @@ fn shown((number, index): (u32, u32)) -> String {
         0 if index == 0 => "taken".to_string(),
         _ => format!("refused {number}, index {index}"),
     }
-}
-
-/// A column of a bench, by the keeper's number.
-pub fn expected(bench: &Bench, which: u8) -> Column {
-    match which {
-        0 => column(&bench.parent),
-        1 => column(&bench.ignore),
-        2 => column(&bench.status),
-        3 => column(&bench.holds),
-        4 => column(&bench.depth),
-        5 => column(&bench.error),
-        6 => column(&bench.children),
-        7 => column(&bench.linked),
-        8 => column(&bench.consumer),
-        9 => column(&bench.supplier),
-        10 => column(&bench.flags),
-        _ => column(&scalars(bench)),
-    }
-}
-
-/// Values first, then zeros.
-fn column<T: Copy + Into<u16>>(values: &[T]) -> Column {
-    let mut column = [0; ROWS];
-    for (row, value) in column.iter_mut().zip(values) {
-        *row = (*value).into();
-    }
-    column
-}
-
-fn scalars(bench: &Bench) -> [u8; 9] {
-    let [first, second, third] = bench.carried;
-    [
-        bench.n,
-        bench.m,
-        bench.callback,
-        bench.asked,
-        bench.target,
-        first,
-        second,
-        third,
-        bench.count,
-    ]
 }

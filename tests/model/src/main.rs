@@ -7,13 +7,13 @@ use std::io::{self, BufRead, Write};
 /// The claims' imports and helpers: each definition that has to compute is named twice, to be brought in and to be unfolded.
 const USES: &[(&str, &[&str])] = &[
     ("Limits", &["DEVICES", "LINKS", "ROWS"]),
-    ("Tests", &["if_then_else_", "_and_", "_or_", "_implies_", "any", "all", "first", "count", "tally", "column"]),
+    ("Logic", &["if_then_else_", "_and_", "_or_", "_implies_", "any", "all", "first", "count", "tally", "column"]),
     ("Table", &["markGood", "versionGood", "limitsGood", "lengthGood", "parentGood", "endsGood", "before", "deviceGood", "linkFits", "ascends", "linkGood", "badDevice", "badLink", "entriesAnswer", "tableAnswer", "cell", "padded", "wiringIn"]),
     ("State", &["isChild", "isLive", "childCount", "linkCount", "childrenOf", "linkedOf", "atRest", "loaded", "emptyState", "loadOf"]),
     ("WakeSet", &["marksChild", "marksConsumer", "belongs", "sweep", "wakeMarks", "inWake", "lowest"]),
-    ("Records", &["bounds", "allowed"]),
+    ("Records", &["kinds", "allowed", "fault"]),
     ("Requests", &["enable", "disable", "get", "put", "suspendTest", "askSuspend", "idle", "suspend", "barred", "othersBarred", "askResume", "wake", "getWake", "putIdle", "running", "parentDown", "supplierDown", "setActive", "needed", "setSuspended", "ignoreChildren"]),
-    ("Steps", &["idleResult", "suspendResult", "goOn", "resumeResult", "result", "request", "recordStep", "byteStep", "run", "repliesIn"]),
+    ("Steps", &["idleResult", "suspendResult", "goOn", "resumeResult", "result", "request", "resultStep", "busy", "recordStep", "byteStep", "run", "repliesIn"]),
     ("SoundTest", &["columnTest", "tableTest", "sameTest", "parentSupplies", "linkSupplies", "supplyTest", "keptTest", "carriedTest", "steadyTest", "allSteady", "othersSteady", "membersClear", "noneTest", "suspendOpenTest", "resumeOpenTest", "idleOpenTest", "callbackTest", "soundTest"]),
 ];
 

@@ -1,23 +1,46 @@
--- `counts::set_status` meets its contract. Assumes nothing.
-use Rattle.counts.proofs.Shifting.{turned-same, turned-other}
+-- Where the device was powered and stays so, or neither, no count changes; else its parent's count and its suppliers' counts follow, which
+-- is a law of `Turning` over states. Assumes nothing.
+use Rattle.counts.proofs.Turning.{row-of, turned-same, turned-other}
+use Rattle.links.proofs.Order.{listed, index-first, index-next, next-fits}
 use borrow.Author.Needs.{needs}
+use denote.Ref.{now}
 use Rattle.counts.proofs.set_status.Statement.{statement}
 use Rattle.counts.proofs.set_status.Tie as tie
 
+-- no count changes
 returns : tie.Need-returns
 returns c =
-    let s = c .before .before .before .before .before in
-    let w = c .before .before .before .before .wide .ensures .same in
-    let a = rw w at (c .before .before .powered .ensures) in
-    rw w (turned-same _ _ _ _ _ (s .args .p) (s .args .v) _ _ _ (rw (a, c .before .powered2 .ensures) at (c .if1 .taken)))
+    let stored = c .before in
+    let new = stored .before .before in
+    let was = new .before in
+    let old = was .before in
+    let words = now (old .before .before .args .words) in
+    let same = rw (was .powered .ensures, old .status .ensures words, new .powered2 .ensures) at (c .if1 .taken) in
+    record {
+      is = λ h l. rw (stored .set-status-cell .ensures) (turned-same _ _ _ (h .ready) (row-of (h .ready) _ l) same);
+    }
 
+-- the counts follow
 returns-2 : tie.Need-returns-2
 returns-2 c =
-    let s = c .before .before .before .before .before .before .before .before .before in
-    let w = c .before .before .before .before .before .before .before .before .wide .ensures .same in
-    let a = rw w at (c .before .before .before .before .before .before .powered .ensures) in
-    let b = c .before .before .before .before .before .powered2 .ensures in
-    rw w (turned-other _ _ _ _ _ (s .args .p) (s .args .v) _ _ _ (rw (a, b) at (c .before .before .before .before .if1 .left)) _ _ (rw b at (c .before .before .shift-child .ensures)) (rw b at (c .shift-links .ensures)))
+    let child = c .before .before .before in
+    let test = child .before .before in
+    let stored = test .before in
+    let new = stored .before .before in
+    let was = new .before in
+    let old = was .before in
+    let words = now (old .before .before .args .words) in
+    let up = new .powered2 .ensures in
+    let other = rw (was .powered .ensures, old .status .ensures words, up) at (test .if1 .left) in
+    record {
+      is =
+          λ h l.
+          let links = c .shift-links .ensures .is _ _ (index-first (listed h) _ l) (index-next (listed h) _ l) (next-fits (listed h) _) in
+          rw (links, child .shift-child .ensures, stored .set-status-cell .ensures, up) (turned-other _ _ _ (h .ready) (row-of (h .ready) _ l) l other);
+    }
 
 pub set-status-spec : {M : Type 1} → statement M
-set-status-spec = tie.close (tie.spec (λ c κs. search needs) (λ c. search needs) (λ c κs. search needs) (λ c κs. search needs) (λ c. search needs) returns (λ c κs. search needs) (λ c κs. search needs) returns-2)
+set-status-spec =
+    tie.close
+    (tie.spec (λ c κs. search needs) (λ c κs. search needs) (λ c κs. search needs) (λ c κs. search needs) returns (λ c κs. search needs)
+    (λ c κs. search needs) returns-2)

@@ -1,27 +1,28 @@
--- `counts::shift_child` meets its contract. Assumes nothing.
-use native.Mathlib.Omega.{arith}
+-- The two exits are the two cases of the definition. Assumes nothing.
 use borrow.Author.Tests.{eq-eqb, ne-eqb}
+use Rattle.model.specs.Logic.{if_then_else_}
 use Rattle.model.specs.Limits.{NONE}
-use Rattle.model.proofs.Basics.{none-rows}
-use Rattle.counts.specs.Shifts.{hasParent}
-use Rattle.counts.proofs.Shifting.{follow-one, follow-off}
+use Rattle.counts.specs.Shifts.{shiftChild}
 use borrow.Author.Needs.{needs}
 use Rattle.counts.proofs.shift_child.Statement.{statement}
 use Rattle.counts.proofs.shift_child.Tie as tie
 
+-- p has no parent
 returns : tie.Need-returns
-unfolding hasParent
-returns c = λ n l few. follow-off _ _ _ n _ _ (rw (eq-eqb _ NONE (rw (c .before .before .wide .ensures .same) at (c .if1 .taken))))
+unfolding shiftChild if_then_else_
+returns c = λ words. rw (← c .before .parent .ensures, eq-eqb _ NONE (c .if1 .taken))
 
+-- its count is the next one
 returns-2 : tie.Need-returns-2
-unfolding hasParent
+unfolding shiftChild if_then_else_
 returns-2 c =
-    λ n l few.
-    let s = c .before .before .before .before .before .before in
-    let d = c .before .before .before .before .before .wide .ensures .same in
-    let e = rw d at (c .before .before .wide2 .ensures .same) in
-    let low = c .before .before .wide2 .ensures .low in
-    rw e (follow-one _ _ _ n (s .args .p) _ _ l (none-rows (rw e at low)) (rw (ne-eqb _ NONE (rw d at (c .before .before .before .if1 .left)))) (λ h. (rw e at (c .next-children .ensures)) (omega arith)))
+    let next = c .before in
+    let old = next .before .before in
+    let test = old .before .before in
+    let asked = test .before in
+    λ words.
+    rw (c .set-children .ensures, next .next-children .ensures, ← asked .parent .ensures, ← old .children .ensures, ne-eqb _ NONE (test .if1 .left))
 
 pub shift-child-spec : {M : Type 1} → statement M
-shift-child-spec = tie.close (tie.spec (λ c κs. search needs) (λ c. search needs) returns (λ c κs. search needs) (λ c. search needs) (λ c κs. search needs) (λ c. search needs) returns-2)
+shift-child-spec =
+    tie.close (tie.spec (λ c κs. search needs) returns (λ c κs. search needs) (λ c κs. search needs) (λ c κs. search needs) returns-2)

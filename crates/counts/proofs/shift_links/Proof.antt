@@ -1,60 +1,64 @@
--- `counts::shift_links` meets its contract. The invariant: the counts followed the links passed. Assumes nothing.
-use mathlib.Core.Path.{_≡_}
-use Prim.Native.Nat.{_≤_, _<_, _-_}
+-- The invariant: from the first link of p to i, the links are passed, each by a law of `Turning`. An index that leads past the links is none
+-- of a sound bench: nothing is done. Assumes nothing.
+use mathlib.Core.Path.{_≡_, sym, _∙_}
+use Prim.Native.Nat.{_+_, _≤_, _-_}
 use native.Mathlib.Omega.{arith}
-use lib.ListN.{getD}
-use lib.Dec.{ltb}
-use Rattle.model.specs.Limits.{LINKS}
-use Rattle.model.proofs.Counting.{count-low}
-use Rattle.links.specs.Ascending.{Ascending}
-use Rattle.links.proofs.Order.{none-before, none-after}
-use Rattle.counts.specs.Shifts.{runtimeOf, Follows}
-use Rattle.counts.proofs.Shifting.{under, under-first, under-more, under-rest, not-of}
+use Rattle.model.specs.Limits.{LINKS, ROWS}
+use Rattle.memory.specs.Layout.{stateIn}
+use Rattle.counts.specs.Shifts.{shiftLinks}
+use Rattle.counts.proofs.Turning.{links-none, links-more}
 use borrow.Author.Needs.{needs}
 use Rattle.counts.proofs.shift_links.Statement.{statement}
 use Rattle.counts.proofs.shift_links.Tie as tie
 
 abbrev Inv-loop : tie.InvT-loop
-Inv-loop consumer supplier flags m linked₀ p up many i₀ linked i =
-    Ascending consumer many → (i ≤ many) × Follows (under i (runtimeOf consumer flags p)) up supplier many linked₀ linked
+Inv-loop bytes words₀ first p up at i₀ end words i =
+    (i₀ ≤ i) × ((i ≤ i₀ + (end - i₀)) × (stateIn bytes words ≡ shiftLinks (stateIn bytes words₀) up i₀ (i - i₀)))
 
 abbrev μ-loop : tie.MeasureT-loop
-μ-loop consumer supplier flags m linked₀ p up many i₀ linked i =
-    many - i
+μ-loop bytes words₀ first p up at i₀ end words i = end - i
 
+-- the index leads past the links
 returns : tie.Need-returns Inv-loop μ-loop
 unfolding LINKS
-returns c = λ l a. let z = c .if1 .taken in absurd (omega arith)
+returns c =
+    let end = c .before in
+    let start = end .before .before in
+    let at = start .before .before in
+    let past = c .if1 .taken in
+    record { is = λ a b x y l. let e = rw (at .row .ensures .0) at (end .wide2 .ensures) in absurd (omega arith) }
 
 loop-holds : tie.Need-loop-holds Inv-loop μ-loop
-unfolding LINKS
-loop-holds c = λ a. let l = c .before .if1 .left in let e = c .first-link .ensures (omega arith) a in let z = count-low (λ i. ltb (getD (c .before .before .args .consumer .now) i 0) (c .before .before .args .p)) (c .before .before .args .m) in (omega arith, under-first _ _ _ _ _ _ (λ k h. not-of _ _ _ _ (none-before a (c .before .before .args .p) k (rw e at h))))
-
-element-copy-out-if2 : tie.Need-element-copy-out-if2 Inv-loop μ-loop
-unfolding LINKS
-element-copy-out-if2 c = let l = c .before .before .before .if1 .left in let t = c .loop-test .taken in omega arith
-
-returns-2 : tie.Need-returns-2 Inv-loop μ-loop
-returns-2 c = λ l a. under-rest _ _ _ _ _ _ _ (λ k g h. not-of _ _ _ _ (none-after a (c .before .before .before .before .before .before .args .p) (c .before .before .before .loop .i) k (c .if2 .taken) g h)) (c .before .before .before .loop .inv a .1)
-
-shift-link-requires : tie.Need-shift-link-requires Inv-loop μ-loop
-unfolding LINKS
-shift-link-requires c κs = let l = c .before .before .before .before .before .before .if1 .left in let t = c .before .before .before .loop-test .taken in omega arith
-
-add-i : tie.Need-add-i Inv-loop μ-loop
-unfolding LINKS
-add-i c = let l = c .before .before .before .before .before .before .before .if1 .left in let t = c .before .before .before .before .loop-test .taken in omega arith
-
-loop-less : tie.Need-loop-less Inv-loop μ-loop
-unfolding LINKS
-loop-less c = let l = c .before .before .before .before .before .before .before .if1 .left in let t = c .before .before .before .before .loop-test .taken in omega arith
+loop-holds c = (omega arith, (omega arith, sym (links-none _ _ _)))
 
 loop-again : tie.Need-loop-again Inv-loop μ-loop
-unfolding LINKS
-loop-again c = λ a. let l = c .before .before .before .before .loop-test .taken in let m = c .before .before .before .before .before .before .before .if1 .left in (omega arith, under-more _ _ _ _ _ _ _ _ (c .before .before .before .before .before .loop .inv a .1) (c .shift-link .ensures _ l (omega arith)))
+loop-again c =
+    let turn = c .before .before in
+    let loop = turn .before .loop in
+    (omega arith, (omega arith, rw (c .shift-link .ensures, loop .inv .1 .1) (links-more _ _ _ (loop .i) (loop .inv .0))))
 
-returns-3 : tie.Need-returns-3 Inv-loop μ-loop
-returns-3 c = λ l a. under-rest _ _ _ _ _ _ _ (λ k g h. absurd (let t = c .loop-test .left in omega arith)) (c .before .loop .inv a .1)
+-- every link of p is passed
+returns-2 : tie.Need-returns-2 Inv-loop μ-loop
+returns-2 c =
+    let loop = c .before in
+    let end = loop .before .before in
+    let start = end .before .before in
+    let at = start .before .before in
+    let past = c .loop-test .left in
+    let all : loop .loop .i - start .wide .result ≡ end .wide2 .result - start .wide .result = omega arith in
+    record {
+      is =
+          λ a b x y z.
+          let from = rw (at .row .ensures .0) at (start .wide .ensures) ∙ x in
+          let to = rw (at .row .ensures .0) at (end .wide2 .ensures) ∙ y in
+          rw (all, from, to) at (loop .loop .inv .1 .1);
+    }
 
 pub shift-links-spec : {M : Type 1} → statement M
-shift-links-spec = tie.close (tie.spec Inv-loop μ-loop returns (λ c κs. search needs) loop-holds element-copy-out-if2 returns-2 shift-link-requires add-i loop-less loop-again returns-3)
+unfolding ROWS
+shift-links-spec =
+    tie.close
+    (tie.spec Inv-loop μ-loop (λ c κs. search needs) (λ c. omega (arith, c .row .ensures .1)) (λ c. omega (arith, c .row .ensures .1))
+    (λ c κs. search needs) (λ c. omega (arith, c .before .before .row .ensures .1)) (λ c. omega (arith, c .before .before .row .ensures .1))
+    (λ c. omega (arith, c .before .before .row .ensures .1)) (λ c κs. search needs) returns loop-holds (λ c κs. search needs) (λ c. omega arith)
+    (λ c. omega arith) loop-again returns-2)

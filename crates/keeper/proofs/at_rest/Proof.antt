@@ -1,15 +1,35 @@
--- `keeper::at_rest` meets its contract. Assumes nothing.
+-- `keeper::at_rest` meets its contract: the counts and the entries are stored into the memory of the empty bench. Assumes nothing.
+use mathlib.Core.Path.{_≡_}
+use lib.ListN.{length}
 use native.Mathlib.Omega.{arith}
 use Rattle.model.specs.Limits.{LINKS, ROWS}
-use Rattle.model.specs.Table.{wiringIn}
-use Rattle.model.specs.State.{atRest, loaded}
+use Rattle.memory.specs.Layout.{BYTES, WORDS}
+use Rattle.keeper.proofs.Entries.{at-rest}
 use borrow.Author.Needs.{needs}
 use Rattle.keeper.proofs.at_rest.Statement.{statement}
 use Rattle.keeper.proofs.at_rest.Tie as tie
 
+-- the arrays of a bench have their lengths
+many-bytes : (c : tie.After-empty) → length (c .empty .result .bytes) ≡ BYTES
+unfolding BYTES ROWS LINKS
+many-bytes c = let g = c .empty .ok in search needs
+
+many-words : (c : tie.After-empty) → length (c .empty .result .words) ≡ WORDS
+unfolding WORDS ROWS
+many-words c = let g = c .empty .ok in search needs
+
 returns : tie.Need-returns
-unfolding loaded atRest wiringIn LINKS ROWS
-returns c = rw (c .depth-column .ensures, c .before .link-column3 .ensures, c .before .before .link-column2 .ensures, c .before .before .before .link-column .ensures, c .before .before .before .before .device-column2 .ensures, c .before .before .before .before .before .device-column .ensures, c .before .before .before .before .before .before .byte-at2 .ensures, c .before .before .before .before .before .before .before .byte-at .ensures)
+returns c =
+    let m = c .before .before .before .before in
+    let n = m .before .before .before in
+    let b = n .before .before .before .before .before in
+    let x = many-bytes b in
+    let y = many-words b in
+    at-rest _ _ _ _ _ _ _ _ _ (b .empty .ensures) (omega arith) (omega arith) (n .before .byte-at .ensures) (n .set-devices .ensures)
+    (m .before .byte-at2 .ensures) (m .set-links .ensures) (c .before .before .enter-devices .ensures) (c .enter-links .ensures)
 
 pub at-rest-spec : {M : Type 1} → statement M
-at-rest-spec = tie.close (tie.spec (λ c κs. search needs) (λ c κs. search needs) (λ c κs. search needs) (λ c κs. search needs) (λ c κs. search needs) (λ c κs. search needs) (λ c κs. search needs) (λ c κs. search needs) (λ c. search needs) returns)
+at-rest-spec =
+    tie.close
+    (tie.spec (λ c κs. search needs) (λ c κs. search needs) (λ c κs. search needs) (λ c κs. search needs) (λ c. search needs) (λ c κs. search needs)
+    (λ c κs. search needs) (λ c κs. search needs) returns)

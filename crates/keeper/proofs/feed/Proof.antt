@@ -1,19 +1,26 @@
--- `keeper::feed` meets its contract. Assumes nothing.
-use mathlib.Core.Path.{_∙_, ap}
-use borrow.Author.Tests.{not-false}
-use Rattle.answers.specs.Answers.{callbackOf}
-use Rattle.records.proofs.Stepping.{opened-sound}
-use Rattle.kept.proofs.Chains.{failed}
-use Rattle.keeper.proofs.Pieces.{fed-unsound, fed-sound}
+-- `keeper::feed` meets its contract: the arrays of a bench have their lengths by its type, and a piece fed to its memory gives what the
+-- model's does. Assumes nothing.
+use mathlib.Core.Path.{_≡_, sym}
+use lib.ListN.{length}
+use Rattle.model.specs.Limits.{LINKS, ROWS}
+use Rattle.memory.specs.Layout.{BYTES, WORDS}
 use borrow.Author.Needs.{needs}
 use Rattle.keeper.proofs.feed.Statement.{statement}
 use Rattle.keeper.proofs.feed.Tie as tie
 
-returns : tie.Need-returns
-returns c = fed-unsound _ (failed (c .before .sound .ensures .test) (c .if1 .taken))
+many-bytes : (c : tie.Start) → length (c .args .bench .bytes) ≡ BYTES
+unfolding BYTES ROWS LINKS
+many-bytes c = let g = c .good .0 in search needs
 
-returns-2 : tie.Need-returns-2
-returns-2 c = let h = c .before .before .before .before .before .before .before .before .before .before .before .before .before .before .before .before .before .before .before .before .before .before .before .before .before .before .before .before .before .before .sound .ensures .sound (not-false _ (c .before .before .before .before .before .before .before .before .before .before .before .before .before .before .before .before .before .before .before .before .before .before .before .before .before .before .before .before .before .if1 .left)) in rw (c .before .before .kind-of .ensures, c .before .asked-of .ensures, c .target-of .ensures) (fed-sound h (ap callbackOf (c .before .before .before .before .before .before .before .before .opened .ensures) ∙ opened-sound h) (c .before .before .before .before .before .feed .ensures))
+many-words : (c : tie.Start) → length (c .args .bench .words) ≡ WORDS
+unfolding WORDS ROWS
+many-words c = let g = c .good .0 in search needs
+
+returns : tie.Need-returns
+returns c =
+    let f = c .before .before in
+    let b = f .before .before .before .before .before .before .before .before in
+    sym (f .feed .ensures .is (many-bytes b) (many-words b))
 
 pub feed-spec : {M : Type 1} → statement M
-feed-spec = tie.close (tie.spec (λ c κs. search needs) returns (λ c κs. search needs) (λ c κs. search needs) (λ c κs. search needs) (λ c κs. search needs) (λ c κs. search needs) (λ c. search needs) returns-2)
+feed-spec = tie.close (tie.spec (λ c κs. search needs) (λ c. search needs) returns)

@@ -1,6 +1,6 @@
 -- `table::comes_before` meets its contract. Assumes nothing.
 use borrow.Author.Tests.{lt-ltb, le-ltb, eq-eqb, ne-eqb}
-use Rattle.model.specs.Tests.{_and_, _or_}
+use Rattle.model.specs.Logic.{_and_, _or_}
 use Rattle.model.specs.Table.{before}
 use borrow.Author.Needs.{needs}
 use Rattle.table.proofs.comes_before.Statement.{statement}

@@ -1,6 +1,6 @@
 -- `table::device_good` meets its contract. Assumes nothing.
 use borrow.Author.Tests.{not-true, not-false}
-use Rattle.model.specs.Tests.{_and_}
+use Rattle.model.specs.Logic.{_and_}
 use Rattle.model.specs.Table.{deviceGood}
 use borrow.Author.Needs.{needs}
 use Rattle.table.proofs.device_good.Statement.{statement}

@@ -1,6 +1,6 @@
 -- `table::ends_good` meets its contract. Assumes nothing.
 use borrow.Author.Tests.{lt-ltb, le-ltb}
-use Rattle.model.specs.Tests.{_and_}
+use Rattle.model.specs.Logic.{_and_}
 use Rattle.model.specs.Table.{endsGood}
 use borrow.Author.Needs.{needs}
 use Rattle.table.proofs.ends_good.Statement.{statement}

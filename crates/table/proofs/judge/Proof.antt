@@ -1,6 +1,6 @@
 -- `table::judge` meets its contract. Assumes nothing.
 use borrow.Author.Tests.{lt-ltb, le-ltb, not-true, not-false}
-use Rattle.model.specs.Tests.{if_then_else_}
+use Rattle.model.specs.Logic.{if_then_else_}
 use Rattle.model.specs.Table.{tableAnswer}
 use borrow.Author.Needs.{needs}
 use Rattle.table.proofs.judge.Statement.{statement}

@@ -1,7 +1,7 @@
 -- `table::limits_good` meets its contract. Assumes nothing.
 use borrow.Author.Tests.{lt-leb, le-leb}
 use Rattle.model.specs.Limits.{DEVICES, LINKS}
-use Rattle.model.specs.Tests.{_and_}
+use Rattle.model.specs.Logic.{_and_}
 use Rattle.model.specs.Table.{limitsGood}
 use borrow.Author.Needs.{needs}
 use Rattle.table.proofs.limits_good.Statement.{statement}

@@ -1,6 +1,6 @@
 -- `table::link_ascends` meets its contract. Assumes nothing.
 use borrow.Author.Tests.{eq-eqb, ne-eqb}
-use Rattle.model.specs.Tests.{_or_}
+use Rattle.model.specs.Logic.{_or_}
 use Rattle.model.specs.Table.{ascends}
 use borrow.Author.Needs.{needs}
 use Rattle.table.proofs.link_ascends.Statement.{statement}

@@ -1,6 +1,6 @@
 -- `table::link_fits` meets its contract. Assumes nothing.
 use borrow.Author.Tests.{not-true, not-false}
-use Rattle.model.specs.Tests.{_and_}
+use Rattle.model.specs.Logic.{_and_}
 use Rattle.model.specs.Table.{linkFits}
 use borrow.Author.Needs.{needs}
 use Rattle.table.proofs.link_fits.Statement.{statement}

@@ -1,6 +1,6 @@
 -- `table::mark_good` meets its contract. Assumes nothing.
 use borrow.Author.Tests.{eq-eqb, ne-eqb}
-use Rattle.model.specs.Tests.{_and_}
+use Rattle.model.specs.Logic.{_and_}
 use Rattle.model.specs.Table.{markGood}
 use borrow.Author.Needs.{needs}
 use Rattle.table.proofs.mark_good.Statement.{statement}

@@ -1,6 +1,6 @@
 -- `table::parent_good` meets its contract. Assumes nothing.
 use borrow.Author.Tests.{eq-eqb, ne-eqb}
-use Rattle.model.specs.Tests.{_or_}
+use Rattle.model.specs.Logic.{_or_}
 use Rattle.model.specs.Table.{parentGood}
 use borrow.Author.Needs.{needs}
 use Rattle.table.proofs.parent_good.Statement.{statement}

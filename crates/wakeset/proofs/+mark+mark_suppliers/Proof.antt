@@ -1,138 +1,219 @@
--- `wakeset::mark` and `wakeset::mark_suppliers` meet their contracts. The measure is the device's number, with the links left. Assumes nothing.
+-- The measure is the device's number with the links left: a parent or
+-- a supplier has a lower number, and the next link leaves one link less. What each exit leaves is a law of `Marking`. Assumes nothing.
 use mathlib.Core.Path.{_≡_, sym, _∙_}
+use mathlib.Core.Bool.{true}
+use mathlib.Core.List.{List}
 use mathlib.Core.Logic.{⊎-elim}
-use Prim.Native.Nat.{ℕ, _<_, _≤_, _+_, _-_, _*_}
+use Prim.Native.Nat.{ℕ, _<_, _+_, _-_, _*_}
 use native.Mathlib.Omega.{arith}
-use borrow.Author.Tests.{lt-ltb}
 use denote.Ref.{now}
 use borrow.Author.Needs.{needs}
 use borrow.Fn.Kinds.{In}
 use borrow.Fn.PlainCycle.{Measures, is, falls, and}
 use Rattle.model.specs.Limits.{LINKS, ROWS}
-use Rattle.model.proofs.Basics.{never, and-parts, and-of}
-use Rattle.model.specs.Table.{wired}
-use Rattle.links.proofs.Order.{none-before, none-after}
-use Rattle.wakeset.specs.Marks.{Joined, Ready}
-use Rattle.wakeset.proofs.Marking.{powered-none, closed-has, FromParent, AtLink, joined-same, joined-as, parent-lower, supplier-lower, link-consumer, joined-whole, joined-links, ready-parent, ready-link}
+use Rattle.memory.specs.Layout.{stateIn}
+use Rattle.wakeset.specs.Marks.{sleepingParent, sleepingSupplier, Marks}
+use Rattle.wakeset.proofs.Marking.{FromParent, AtLink, closed-has, marks-same, marks-whole, marks-links}
+use Rattle.wakeset.proofs.Marking.{parent-lower, parent-asleep, parent-taken, parent-left, links-past, links-none, supplier-lower, supplier-asleep, link-taken, link-left}
+use Rattle.basics.proofs.row.Reads as row-reads
+use Rattle.basics.proofs.wide.Reads as wide-reads
+use Rattle.memory.proofs.parent.Reads as parent-reads
+use Rattle.memory.proofs.supplier.Reads as supplier-reads
+use Rattle.wakeset.proofs.lower.Reads as lower-reads
+use Rattle.wakeset.proofs.on_parent.Reads as on-parent-reads
+use Rattle.wakeset.proofs.on_supplier.Reads as on-supplier-reads
 use Rattle.wakeset.proofs.mark.Reads as mark
 use Rattle.wakeset.proofs.mark.Kinds as mark-kinds
 use Rattle.wakeset.proofs.+mark+mark_suppliers.Lts-mark as mark-lts
-use Rattle.wakeset.proofs.mark_suppliers.Reads as mark-suppliers
-use Rattle.wakeset.proofs.mark_suppliers.Kinds as mark-suppliers-kinds
-use Rattle.wakeset.proofs.+mark+mark_suppliers.Lts-mark_suppliers as mark-suppliers-lts
-use Rattle.links.proofs.first_link.Reads as first-link-reads
-use Rattle.wakeset.proofs.rests_on_sleeping_parent.Reads as rests-on-sleeping-parent-reads
-use Rattle.wakeset.proofs.sleeping_link.Reads as sleeping-link-reads
-use Rattle.wakeset.proofs.wide.Reads as wide-reads
+use Rattle.wakeset.proofs.mark_suppliers.Reads as suppliers
+use Rattle.wakeset.proofs.mark_suppliers.Kinds as suppliers-kinds
+use Rattle.wakeset.proofs.+mark+mark_suppliers.Lts-mark_suppliers as suppliers-lts
 use Rattle.wakeset.proofs.+mark+mark_suppliers.{statement}
 use Rattle.wakeset.proofs.+mark+mark_suppliers.Tie.{close}
 
+-- a call for p is above every call for a lower device, and above its own links
 abbrev μ-mark : Measures 2 mark-kinds.ps ℕ
-μ-mark κs a = a .1 .1 .1 .1 .1 .1 .1 .0 * (LINKS + 2) + (LINKS + 1)
+μ-mark κs a = let p = a .1 .1 .0 in p * (LINKS + 2) + (LINKS + 1)
 
-abbrev μ-mark-suppliers : Measures 2 mark-suppliers-kinds.ps ℕ
-μ-mark-suppliers κs a = a .1 .1 .1 .1 .1 .1 .1 .0 * (LINKS + 2) + (a .1 .1 .1 .1 .1 .1 .0 - a .1 .1 .1 .1 .1 .1 .1 .1 .0)
+abbrev μ-suppliers : Measures 2 suppliers-kinds.ps ℕ
+μ-suppliers κs a = let p = a .1 .1 .0 in let k = a .1 .1 .1 .0 in p * (LINKS + 2) + (LINKS - k)
 
+-- what a call at measure t may assume, and what it owes to the calls that it makes
 abbrev mark-at : ℕ → In 2 mark-kinds.ps
 mark-at t = and 2 mark-kinds.ps (is 2 mark-kinds.ps μ-mark t) mark.Pre
 
 abbrev mark-below : ℕ → In 2 mark-kinds.ps
 mark-below t = and 2 mark-kinds.ps (falls 2 mark-kinds.ps _<_ μ-mark t) mark.Pre
 
-abbrev mark-suppliers-at : ℕ → In 2 mark-suppliers-kinds.ps
-mark-suppliers-at t = and 2 mark-suppliers-kinds.ps (is 2 mark-suppliers-kinds.ps μ-mark-suppliers t) mark-suppliers.Pre
+abbrev suppliers-at : ℕ → In 2 suppliers-kinds.ps
+suppliers-at t = and 2 suppliers-kinds.ps (is 2 suppliers-kinds.ps μ-suppliers t) suppliers.Pre
 
-abbrev mark-suppliers-below : ℕ → In 2 mark-suppliers-kinds.ps
-mark-suppliers-below t = and 2 mark-suppliers-kinds.ps (falls 2 mark-suppliers-kinds.ps _<_ μ-mark-suppliers t) mark-suppliers.Pre
+abbrev suppliers-below : ℕ → In 2 suppliers-kinds.ps
+suppliers-below t = and 2 suppliers-kinds.ps (falls 2 suppliers-kinds.ps _<_ μ-suppliers t) suppliers.Pre
 
-mark-returns : (t : ℕ) → mark-lts.Need-returns (wide-reads.Asked, wide-reads.Learnt, rests-on-sleeping-parent-reads.Asked, rests-on-sleeping-parent-reads.Learnt, mark-below t, mark.Post, first-link-reads.Asked, first-link-reads.Learnt, mark-suppliers-below t, mark-suppliers.Post) (mark-at t) mark.Post
-mark-returns t c = λ r. joined-same (λ q i. let x = powered-none i in let y = rw (c .before .before .wide .ensures) at (c .if1 .taken) in absurd (omega arith))
+abbrev mark-claims : ℕ → mark-lts.Claims
+mark-claims t = (
+  row-reads.Asked,
+  row-reads.Learnt,
+  on-parent-reads.Asked,
+  on-parent-reads.Learnt,
+  parent-reads.Asked,
+  parent-reads.Learnt,
+  mark-below t,
+  mark.Post,
+  wide-reads.Asked,
+  wide-reads.Learnt,
+  suppliers-below t,
+  suppliers.Post,
+  lower-reads.Asked,
+  lower-reads.Learnt,
+)
 
-mark-returns-2 : (t : ℕ) → mark-lts.Need-returns-2 (wide-reads.Asked, wide-reads.Learnt, rests-on-sleeping-parent-reads.Asked, rests-on-sleeping-parent-reads.Learnt, mark-below t, mark.Post, first-link-reads.Asked, first-link-reads.Learnt, mark-suppliers-below t, mark-suppliers.Post) (mark-at t) mark.Post
-mark-returns-2 t c = λ r. joined-same (λ q i. closed-has (r .closed) (rw (c .before .before .before .before .wide .ensures) at (c .if2 .taken)) i)
+abbrev suppliers-claims : ℕ → suppliers-lts.Claims
+suppliers-claims t = (
+  row-reads.Asked,
+  row-reads.Learnt,
+  wide-reads.Asked,
+  wide-reads.Learnt,
+  on-supplier-reads.Asked,
+  on-supplier-reads.Learnt,
+  supplier-reads.Asked,
+  supplier-reads.Learnt,
+  mark-below t,
+  mark.Post,
+  suppliers-below t,
+  suppliers.Post,
+)
 
-mark-mark-requires : (t : ℕ) → mark-lts.Need-mark-requires (wide-reads.Asked, wide-reads.Learnt, rests-on-sleeping-parent-reads.Asked, rests-on-sleeping-parent-reads.Learnt, mark-below t, mark.Post, first-link-reads.Asked, first-link-reads.Learnt, mark-suppliers-below t, mark-suppliers.Post) (mark-at t) mark.Post
+-- ---- mark
+-- where its row was computed, from where its parent was asked about; before that stands the start
+abbrev row-of : (t : ℕ) → mark-lts.After-on-parent (mark-claims t) (mark-at t) mark.Post → mark-lts.After-row (mark-claims t) (mark-at t) mark.Post
+row-of t c = let unmarked = c .before in unmarked .before .before
+
+-- it is marked
+marked-already : (t : ℕ) → mark-lts.Need-returns (mark-claims t) (mark-at t) mark.Post
+marked-already t c = marks-same (λ words r q f. closed-has r (rw (c .before .before .row .ensures .0) at (c .if1 .taken)) f)
+
+-- its parent's number is lower, and the parent sleeps
+parent-falls : (t : ℕ) → mark-lts.Need-mark-requires (mark-claims t) (mark-at t) mark.Post
 unfolding LINKS
-mark-mark-requires t c κs =
-    let s = c .before .before .before .before .before .before .before .before .before in
-    let x = parent-lower _ _ (s .args .p) (and-parts _ _ (sym (c .before .before .before .rests-on-sleeping-parent .ensures) ∙ c .before .before .if3 .taken) .0) in
-    let y = rw (← c .before .before .before .before .before .before .before .before .wide .ensures) at x in
-    let z = c .before .before .before .before .before .before .before .before .wide .ensures in
-    ((let e = s .pre .0 in omega arith), s .pre .1)
+parent-falls t c κs =
+    let taken = c .before .before in
+    let told = taken .before in
+    let start = row-of t told .before in
+    let is = c .before .parent .ensures in
+    let bytes = now (start .args .bytes) in
+    let p = start .args .p in
+    let rests : (words : List ℕ) → sleepingParent (stateIn bytes words) p ≡ true = λ words. sym (told .on-parent .ensures words) ∙ taken .if2 .taken in
+    let lower = parent-lower bytes p is rests in
+    let measure = start .pre .0 in
+    (omega arith, parent-asleep bytes p is rests)
 
--- where the ways meet, the parent's set is joined: that of a powered parent is empty
-parent-joined : (t : ℕ) (c : mark-lts.Joined3 (wide-reads.Asked, wide-reads.Learnt, rests-on-sleeping-parent-reads.Asked, rests-on-sleeping-parent-reads.Learnt, mark-below t, mark.Post, first-link-reads.Asked, first-link-reads.Learnt, mark-suppliers-below t, mark-suppliers.Post) (mark-at t) mark.Post) → let a = c .before .before .before .before .before .before .before .args in Ready (wired 0 (a .m) (now (a .parent)) (now (a .ignore)) (now (a .consumer)) (now (a .supplier)) (now (a .flags))) (now (a .status)) (now (a .marks)) → Joined (FromParent (wired 0 (a .m) (now (a .parent)) (now (a .ignore)) (now (a .consumer)) (now (a .supplier)) (now (a .flags))) (now (a .status)) (a .p)) (now (a .marks)) (c .if3 .marks)
-parent-joined t c r =
-    let e = c .before .before .before .before .before .before .wide .ensures in
-    let told = c .before .rests-on-sleeping-parent .ensures in
+-- its links come after it
+links-fall : (t : ℕ) → mark-lts.Need-mark-suppliers-requires (mark-claims t) (mark-at t) mark.Post
+unfolding LINKS
+links-fall t c κs =
+    let met = c .before .before .before in
+    let start = row-of t (met .before) .before in
+    let measure = start .pre .0 in
+    (omega arith, search needs)
+
+-- where the ways meet, the parent's set is marked
+parent-met : (t : ℕ) (c : mark-lts.Joined2 (mark-claims t) (mark-at t) mark.Post) →
+    let a = row-of t (c .before) .before .args in
+    Marks (FromParent (a .p)) (now (a .bytes)) (now (a .first)) (a .p) (now (a .marks)) (c .if2 .marks) (a .low) (c .if2 .least)
+parent-met t c =
+    let told = c .before .on-parent .ensures in
     ⊎-elim
-    (λ w. rw (w .4) (joined-as (λ q i. record { rests = and-parts _ _ (sym told ∙ w .0 .taken) .0; falls = rw e at i }) (λ q f. rw e (f .falls)) (w .3 .ensures r)))
-    (λ w. rw (w .1) (joined-same (λ q f. never (and-of _ _ (f .rests) (lt-ltb _ _ (powered-none (f .falls)))) (sym told ∙ w .0 .left))))
+    (λ w. rw (w .4, w .5) (parent-taken (w .1 .ensures) (λ words. sym (told words) ∙ w .0 .taken) (w .3 .ensures)))
+    (λ w. rw (w .1, w .2) (parent-left (λ words. sym (told words) ∙ w .0 .left)))
+    (c .if2 .came)
+
+-- the whole set is marked, the device last, and its number is compared last
+whole : (t : ℕ) → mark-lts.Need-returns-2 (mark-claims t) (mark-at t) mark.Post
+whole t c =
+    let linked = c .before in
+    let indexed = linked .before .before in
+    let met = indexed .before .before in
+    let at = row-of t (met .before) in
+    let start = at .before in
+    let row = at .row .ensures .0 in
+    let links = rw (indexed .wide .ensures, row) at (linked .mark-suppliers .ensures) in
+    rw (c .lower .ensures, row) (marks-whole (omega arith) (start .pre .1) (parent-met t met) links)
+
+-- ---- mark_suppliers
+-- where a link of the table was left, from where link k was asked about; before that stands the start
+abbrev room-of : (t : ℕ) → suppliers-lts.After-on-supplier (suppliers-claims t) (suppliers-at t) suppliers.Post → suppliers-lts.Else1 (suppliers-claims t) (suppliers-at t) suppliers.Post
+room-of t c = let end = c .before .before in let at = end .before .before in at .before
+
+-- no link of the table is left
+table-passed : (t : ℕ) → suppliers-lts.Need-returns (suppliers-claims t) (suppliers-at t) suppliers.Post
+unfolding LINKS
+table-passed t c = links-past (omega arith) (c .if1 .taken)
+
+-- no link of p is left
+links-passed : (t : ℕ) → suppliers-lts.Need-returns-2 (suppliers-claims t) (suppliers-at t) suppliers.Post
+links-passed t c =
+    let end = c .before in
+    let at = end .before .before in
+    links-none (rw (end .wide .ensures, at .row .ensures .0) at (c .if2 .taken))
+
+-- the supplier's number is lower, and the supplier sleeps
+supplier-falls : (t : ℕ) → suppliers-lts.Need-mark-requires (suppliers-claims t) (suppliers-at t) suppliers.Post
+unfolding LINKS
+supplier-falls t c κs =
+    let taken = c .before .before in
+    let told = taken .before in
+    let start = room-of t told .before in
+    let is = c .before .supplier .ensures in
+    let bytes = now (start .args .bytes) in
+    let p = start .args .p in
+    let k = start .args .k in
+    let rests : (words : List ℕ) → sleepingSupplier (stateIn bytes words) p k ≡ true = λ words. sym (told .on-supplier .ensures words) ∙ taken .if3 .taken in
+    let lower = supplier-lower bytes p k is rests in
+    let measure = start .pre .0 in
+    (omega arith, supplier-asleep bytes p k is rests)
+
+-- one link less is left
+next-falls : (t : ℕ) → suppliers-lts.Need-mark-suppliers-requires (suppliers-claims t) (suppliers-at t) suppliers.Post
+unfolding LINKS
+next-falls t c κs =
+    let met = c .before in
+    let room = room-of t (met .before) in
+    let left = room .if1 .left in
+    let measure = room .before .pre .0 in
+    (omega arith, search needs)
+
+-- where the ways meet, the supplier's set is marked
+link-met : (t : ℕ) (c : suppliers-lts.Joined3 (suppliers-claims t) (suppliers-at t) suppliers.Post) →
+    let a = room-of t (c .before) .before .args in
+    Marks (AtLink (a .p) (a .k)) (now (a .bytes)) (now (a .first)) (a .p) (now (a .marks)) (c .if3 .marks) (a .low) (c .if3 .least)
+link-met t c =
+    let told = c .before .on-supplier .ensures in
+    ⊎-elim
+    (λ w. rw (w .4, w .5) (link-taken _ (w .1 .ensures) (λ words. sym (told words) ∙ w .0 .taken) (w .3 .ensures)))
+    (λ w. rw (w .1, w .2) (link-left (λ words. sym (told words) ∙ w .0 .left)))
     (c .if3 .came)
 
-mark-mark-suppliers-requires : (t : ℕ) → mark-lts.Need-mark-suppliers-requires (wide-reads.Asked, wide-reads.Learnt, rests-on-sleeping-parent-reads.Asked, rests-on-sleeping-parent-reads.Learnt, mark-below t, mark.Post, first-link-reads.Asked, first-link-reads.Learnt, mark-suppliers-below t, mark-suppliers.Post) (mark-at t) mark.Post
-unfolding LINKS
-mark-mark-suppliers-requires t c κs = let s = c .before .before .before .before .before .before .before .before .before in ((let e = s .pre .0 in let x = s .pre .1 in omega arith), s .pre .1)
-
-mark-returns-3 : (t : ℕ) → mark-lts.Need-returns-3 (wide-reads.Asked, wide-reads.Learnt, rests-on-sleeping-parent-reads.Asked, rests-on-sleeping-parent-reads.Learnt, mark-below t, mark.Post, first-link-reads.Asked, first-link-reads.Learnt, mark-suppliers-below t, mark-suppliers.Post) (mark-at t) mark.Post
-unfolding ROWS
-mark-returns-3 t c =
-    λ r.
-    let s = c .before .before .before .before .before .before .before .before .before .before in
-    let l = r .long in
-    let e = c .before .before .before .before .before .before .before .before .before .wide .ensures in
-    let rows : s .args .p < ROWS = omega arith in
-    let j = parent-joined t (c .before .before .before) r in
-    rw e (joined-whole _ _ (s .args .p) _ _ _ _ (omega arith) (rw e at (c .before .before .before .before .before .before .before .if1 .left)) (omega arith) (λ i b. none-before (r .ascending) (s .args .p) i (rw (c .before .before .first-link .ensures (s .pre .1) (r .ascending)) at b)) j (c .mark-suppliers .ensures (ready-parent j r)))
-
--- where the ways meet, the link's set is joined: that of a powered supplier is empty
-link-joined : (t : ℕ) (c : mark-suppliers-lts.Joined3 (sleeping-link-reads.Asked, sleeping-link-reads.Learnt, mark-below t, mark.Post, mark-suppliers-below t, mark-suppliers.Post) (mark-suppliers-at t) mark-suppliers.Post) → let a = c .before .before .before .before .before .args in Ready (wired 0 (a .m) (now (a .parent)) (now (a .ignore)) (now (a .consumer)) (now (a .supplier)) (now (a .flags))) (now (a .status)) (now (a .marks)) → Joined (AtLink (wired 0 (a .m) (now (a .parent)) (now (a .ignore)) (now (a .consumer)) (now (a .supplier)) (now (a .flags))) (now (a .status)) (a .p) (a .k)) (now (a .marks)) (c .if3 .marks)
-link-joined t c r =
-    let told = c .before .sleeping-link .ensures in
-    ⊎-elim
-    (λ w. rw (w .4) (joined-as (λ q i. record { leading = and-parts _ _ (sym told ∙ w .0 .taken) .0; falls = i }) (λ q f. f .falls) (w .3 .ensures r)))
-    (λ w. rw (w .1) (joined-same (λ q f. never (and-of _ _ (f .leading) (lt-ltb _ _ (powered-none (f .falls)))) (sym told ∙ w .0 .left))))
-    (c .if3 .came)
-
-mark-suppliers-returns : (t : ℕ) → mark-suppliers-lts.Need-returns (sleeping-link-reads.Asked, sleeping-link-reads.Learnt, mark-below t, mark.Post, mark-suppliers-below t, mark-suppliers.Post) (mark-suppliers-at t) mark-suppliers.Post
-mark-suppliers-returns t c = λ r. joined-same (λ q f. let x = f .from in let y = f .below in let z = c .if1 .taken in absurd (omega arith))
-
-mark-suppliers-element-copy-out-if2 : (t : ℕ) → mark-suppliers-lts.Need-element-copy-out-if2 (sleeping-link-reads.Asked, sleeping-link-reads.Learnt, mark-below t, mark.Post, mark-suppliers-below t, mark-suppliers.Post) (mark-suppliers-at t) mark-suppliers.Post
-unfolding LINKS
-mark-suppliers-element-copy-out-if2 t c = let x = c .before .pre .1 in let z = c .if1 .left in omega arith
-
-mark-suppliers-returns-2 : (t : ℕ) → mark-suppliers-lts.Need-returns-2 (sleeping-link-reads.Asked, sleeping-link-reads.Learnt, mark-below t, mark.Post, mark-suppliers-below t, mark-suppliers.Post) (mark-suppliers-at t) mark-suppliers.Post
-mark-suppliers-returns-2 t c = let s = c .before .before .before in λ r. joined-same (λ q f. absurd (none-after (r .ascending) (s .args .p) (s .args .k) (f .at) (c .if2 .taken) (f .from) (f .below) (link-consumer _ _ _ _ _ (f .leading))))
-
-mark-suppliers-sleeping-link-requires : (t : ℕ) → mark-suppliers-lts.Need-sleeping-link-requires (sleeping-link-reads.Asked, sleeping-link-reads.Learnt, mark-below t, mark.Post, mark-suppliers-below t, mark-suppliers.Post) (mark-suppliers-at t) mark-suppliers.Post
-mark-suppliers-sleeping-link-requires t c κs = let x = c .before .before .before .pre .1 in let z = c .before .before .if1 .left in omega arith
-
-mark-suppliers-element-copy-out-mark : (t : ℕ) → mark-suppliers-lts.Need-element-copy-out-mark (sleeping-link-reads.Asked, sleeping-link-reads.Learnt, mark-below t, mark.Post, mark-suppliers-below t, mark-suppliers.Post) (mark-suppliers-at t) mark-suppliers.Post
-unfolding LINKS
-mark-suppliers-element-copy-out-mark t c = let x = c .before .before .before .before .before .pre .1 in let z = c .before .before .before .before .if1 .left in omega arith
-
-mark-suppliers-mark-requires : (t : ℕ) → mark-suppliers-lts.Need-mark-requires (sleeping-link-reads.Asked, sleeping-link-reads.Learnt, mark-below t, mark.Post, mark-suppliers-below t, mark-suppliers.Post) (mark-suppliers-at t) mark-suppliers.Post
-unfolding LINKS
-mark-suppliers-mark-requires t c κs =
-    let s = c .before .before .before .before .before .before .before in
-    let x = supplier-lower _ _ _ (s .args .p) (s .args .k) (and-parts _ _ (sym (c .before .before .before .sleeping-link .ensures) ∙ c .before .before .if3 .taken) .0) in
-    ((let e = s .pre .0 in omega arith), s .pre .1)
-
-mark-suppliers-add-mark-suppliers : (t : ℕ) → mark-suppliers-lts.Need-add-mark-suppliers (sleeping-link-reads.Asked, sleeping-link-reads.Learnt, mark-below t, mark.Post, mark-suppliers-below t, mark-suppliers.Post) (mark-suppliers-at t) mark-suppliers.Post
-unfolding LINKS
-mark-suppliers-add-mark-suppliers t c = let x = c .before .before .before .before .before .pre .1 in let z = c .before .before .before .before .if1 .left in omega arith
-
-mark-suppliers-mark-suppliers-requires : (t : ℕ) → mark-suppliers-lts.Need-mark-suppliers-requires (sleeping-link-reads.Asked, sleeping-link-reads.Learnt, mark-below t, mark.Post, mark-suppliers-below t, mark-suppliers.Post) (mark-suppliers-at t) mark-suppliers.Post
-unfolding LINKS
-mark-suppliers-mark-suppliers-requires t c κs = let s = c .before .before .before .before .before .before in let z = c .before .before .before .before .before .if1 .left in ((let e = s .pre .0 in omega arith), s .pre .1)
-
-mark-suppliers-returns-3 : (t : ℕ) → mark-suppliers-lts.Need-returns-3 (sleeping-link-reads.Asked, sleeping-link-reads.Learnt, mark-below t, mark.Post, mark-suppliers-below t, mark-suppliers.Post) (mark-suppliers-at t) mark-suppliers.Post
-mark-suppliers-returns-3 t c =
-    λ r.
-    let s = c .before .before .before .before .before .before .before in
-    let j = link-joined t (c .before .before) r in
-    joined-links _ _ (s .args .p) (s .args .k) _ _ _ (let z = c .before .before .before .before .before .before .if1 .left in omega arith) j (c .mark-suppliers .ensures (ready-link j r))
+-- the link and the others are followed
+links-followed : (t : ℕ) → suppliers-lts.Need-returns-3 (suppliers-claims t) (suppliers-at t) suppliers.Post
+links-followed t c =
+    let met = c .before .before in
+    let own = met .before .before in
+    let end = own .before in
+    let at = end .before .before in
+    let left = rw (end .wide .ensures, at .row .ensures .0) at (own .if2 .left) in
+    marks-links (at .before .before .args .k) left (link-met t met) (c .mark-suppliers .ensures)
 
 pub +mark+mark-suppliers-spec : {M : Type 1} → statement M
-+mark+mark-suppliers-spec = close μ-mark μ-mark-suppliers (λ t. mark-lts.spec (wide-reads.Asked, wide-reads.Learnt, rests-on-sleeping-parent-reads.Asked, rests-on-sleeping-parent-reads.Learnt, mark-below t, mark.Post, first-link-reads.Asked, first-link-reads.Learnt, mark-suppliers-below t, mark-suppliers.Post) (mark-at t) mark.Post (λ c κs. search needs) (λ c. search needs) (mark-returns t) (λ c. search needs) (mark-returns-2 t) (λ c κs. search needs) (λ c. search needs) (mark-mark-requires t) (λ c κs. search needs) (mark-mark-suppliers-requires t) (λ c. search needs) (mark-returns-3 t))
-    λ t. mark-suppliers-lts.spec (sleeping-link-reads.Asked, sleeping-link-reads.Learnt, mark-below t, mark.Post, mark-suppliers-below t, mark-suppliers.Post) (mark-suppliers-at t) mark-suppliers.Post (mark-suppliers-returns t) (mark-suppliers-element-copy-out-if2 t) (mark-suppliers-returns-2 t) (mark-suppliers-sleeping-link-requires t) (mark-suppliers-element-copy-out-mark t) (mark-suppliers-mark-requires t) (mark-suppliers-add-mark-suppliers t) (mark-suppliers-mark-suppliers-requires t) (mark-suppliers-returns-3 t)
+unfolding LINKS ROWS
++mark+mark-suppliers-spec =
+    close μ-mark μ-suppliers
+    (λ t.
+    mark-lts.spec (mark-claims t) (mark-at t) mark.Post (λ c κs. search needs) (λ c. search needs) (marked-already t)
+    (λ c κs. search needs) (λ c κs. search needs) (parent-falls t) (λ c. omega arith) (λ c. omega arith) (λ c κs. search needs) (links-fall t)
+    (λ c. search needs) (λ c κs. search needs) (whole t))
+    (λ t.
+    suppliers-lts.spec (suppliers-claims t) (suppliers-at t) suppliers.Post (table-passed t) (λ c κs. search needs) (λ c. omega arith) (λ c. omega arith)
+    (λ c. omega arith) (λ c κs. search needs) (links-passed t) (λ c κs. search needs) (λ c κs. search needs) (supplier-falls t) (λ c. omega arith)
+    (next-falls t) (links-followed t))

@@ -1,46 +1,54 @@
 -- `wakeset::parents_above` meets its contract. The measure is the device's number. Assumes nothing.
-use mathlib.Core.Path.{_≡_, sym, _∙_}
 use Prim.Native.Nat.{ℕ, _<_, _≤_, _+_}
 use native.Mathlib.Omega.{arith}
 use borrow.Author.Needs.{needs}
 use borrow.Fn.Kinds.{In}
 use borrow.Fn.PlainCycle.{Measures, is, falls, and}
-use Rattle.wakeset.proofs.Above.{above-none, above-one}
-use Rattle.wakeset.proofs.parents_above.Reads as parents-above
-use Rattle.wakeset.proofs.parents_above.Kinds as parents-above-kinds
-use Rattle.wakeset.proofs.+parents_above.Lts-parents_above as parents-above-lts
-use Rattle.wakeset.proofs.wide.Reads as wide-reads
+use Rattle.wakeset.proofs.Parents.{above-none, above-one}
+use Rattle.memory.proofs.parent.Reads as parent-reads
+use Rattle.wakeset.proofs.parents_above.Reads as reads
+use Rattle.wakeset.proofs.parents_above.Kinds as kinds
+use Rattle.wakeset.proofs.+parents_above.Lts-parents_above as lts
 use Rattle.wakeset.proofs.+parents_above.{statement}
 use Rattle.wakeset.proofs.+parents_above.Tie.{close}
 
-abbrev μ-parents-above : Measures 1 parents-above-kinds.ps ℕ
-μ-parents-above κs a = a .1 .0
+abbrev μ : Measures 1 kinds.ps ℕ
+μ κs a = a .1 .0
 
-abbrev parents-above-at : ℕ → In 1 parents-above-kinds.ps
-parents-above-at t = and 1 parents-above-kinds.ps (is 1 parents-above-kinds.ps μ-parents-above t) parents-above.Pre
+-- what a call at measure t may assume, and what it owes to the calls that it makes
+abbrev at : ℕ → In 1 kinds.ps
+at t = and 1 kinds.ps (is 1 kinds.ps μ t) reads.Pre
 
-abbrev parents-above-below : ℕ → In 1 parents-above-kinds.ps
-parents-above-below t = and 1 parents-above-kinds.ps (falls 1 parents-above-kinds.ps _<_ μ-parents-above t) parents-above.Pre
+abbrev below : ℕ → In 1 kinds.ps
+below t = and 1 kinds.ps (falls 1 kinds.ps _<_ μ t) reads.Pre
 
-parents-above-returns : (t : ℕ) → parents-above-lts.Need-returns (wide-reads.Asked, wide-reads.Learnt, parents-above-below t, parents-above.Post) (parents-above-at t) parents-above.Post
-parents-above-returns t c = above-none _ _ (rw (c .before .before .wide .ensures) at (c .if1 .taken))
+abbrev claims : ℕ → lts.Claims
+claims t = (parent-reads.Asked, parent-reads.Learnt, below t, reads.Post)
 
-parents-above-parents-above-requires : (t : ℕ) → parents-above-lts.Need-parents-above-requires (wide-reads.Asked, wide-reads.Learnt, parents-above-below t, parents-above.Post) (parents-above-at t) parents-above.Post
-parents-above-parents-above-requires t c κs = let s = c .before .before .before in let l = c .if1 .left in let m = s .pre .0 in (omega arith, search needs)
+-- no parent is lower
+returns : (t : ℕ) → lts.Need-returns (claims t) (at t) reads.Post
+returns t c = above-none (c .before .parent .ensures) (c .if1 .taken)
 
-parents-above-add-result : (t : ℕ) → parents-above-lts.Need-add-result (wide-reads.Asked, wide-reads.Learnt, parents-above-below t, parents-above.Post) (parents-above-at t) parents-above.Post
-parents-above-add-result t c =
-    let s = c .before .before .before .before in
-    let a = c .parents-above .ensures .few in
-    let l = c .before .if1 .left in
-    let b : c .parents-above .result + 1 ≤ s .args .p = omega arith in
+-- the parent's number is lower
+falling : (t : ℕ) → lts.Need-parents-above-requires (claims t) (at t) reads.Post
+falling t c κs = let start = c .before .before in let lower = c .if1 .left in let measure = start .pre .0 in (omega arith, search needs)
+
+add-result : (t : ℕ) → lts.Need-add-result (claims t) (at t) reads.Post
+add-result t c =
+    let start = c .before .before .before in
+    let few = c .parents-above .ensures .few in
+    let lower = c .before .if1 .left in
+    let room : c .parents-above .result + 1 ≤ start .args .p = omega arith in
     omega arith
 
-parents-above-returns-2 : (t : ℕ) → parents-above-lts.Need-returns-2 (wide-reads.Asked, wide-reads.Learnt, parents-above-below t, parents-above.Post) (parents-above-at t) parents-above.Post
-parents-above-returns-2 t c =
-    let s = c .before .before .before .before in
-    let e = c .before .before .before .wide .ensures in
-    above-one _ (s .args .p) (c .parents-above .result) (omega arith) (rw e at (c .before .if1 .left)) (rw e at (c .parents-above .ensures))
+-- one more than above the parent
+returns-2 : (t : ℕ) → lts.Need-returns-2 (claims t) (at t) reads.Post
+returns-2 t c =
+    let test = c .before in
+    let start = test .before .before in
+    above-one (omega arith) (test .before .parent .ensures) (test .if1 .left) (c .parents-above .ensures)
 
 pub +parents-above-spec : {M : Type 1} → statement M
-+parents-above-spec = close μ-parents-above λ t. parents-above-lts.spec (wide-reads.Asked, wide-reads.Learnt, parents-above-below t, parents-above.Post) (parents-above-at t) parents-above.Post (λ c κs. search needs) (λ c. search needs) (parents-above-returns t) (parents-above-parents-above-requires t) (parents-above-add-result t) (parents-above-returns-2 t)
++parents-above-spec =
+    close μ
+    λ t. lts.spec (claims t) (at t) reads.Post (λ c κs. search needs) (returns t) (falling t) (add-result t) (returns-2 t)

@@ -1,23 +1,23 @@
--- `wakeset::wake_set` meets its contract. Assumes nothing.
-use mathlib.Core.Path.{_≡_}
-use native.Mathlib.Omega.{arith}
-use Rattle.model.specs.Limits.{LINKS, ROWS}
-use Rattle.wakeset.proofs.Marking.{marks-are, ready-none}
+-- Marking joins the device's set to no marks; a powered device's set is empty. Assumes nothing.
+use Rattle.model.specs.Limits.{ROWS}
+use Rattle.wakeset.proofs.Marking.{marks-powered}
+use Rattle.wakeset.proofs.Members.{wake-marks}
 use borrow.Author.Needs.{needs}
 use Rattle.wakeset.proofs.wake_set.Statement.{statement}
 use Rattle.wakeset.proofs.wake_set.Tie as tie
 
+-- t is powered; the lowest number is not asked for, so any will do
 returns : tie.Need-returns
-unfolding LINKS
-returns c = λ l m. let z = c .if1 .taken in absurd (omega arith)
+unfolding ROWS
+returns c = wake-marks (marks-powered {low = 0} (λ words. rw (c .before .status .ensures words) at (c .if1 .taken)))
 
-mark-requires : tie.Need-mark-requires
-unfolding LINKS
-mark-requires c κs = let z = c .before .if1 .left in omega arith
+-- t sleeps
+asleep : tie.Need-mark-requires
+asleep c κs = λ words. rw (c .before .before .status .ensures words) at (c .before .if1 .left)
 
 returns-2 : tie.Need-returns-2
-unfolding LINKS ROWS
-returns-2 c = λ l m a. let s = c .before .before .before in marks-are (s .args .m) _ _ _ _ _ _ (s .args .n) (s .args .t) (omega arith) l _ (c .mark .ensures (ready-none _ _ a))
+unfolding ROWS
+returns-2 c = wake-marks (c .mark .ensures)
 
 pub wake-set-spec : {M : Type 1} → statement M
-wake-set-spec = tie.close (tie.spec returns mark-requires returns-2)
+wake-set-spec = tie.close (tie.spec (λ c κs. search needs) returns asleep returns-2)

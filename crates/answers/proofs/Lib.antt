@@ -1,3 +1,0 @@
--- What the proofs of transitions cite.
-pub mod Tests
-pub mod Turning

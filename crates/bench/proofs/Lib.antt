@@ -1,4 +1,0 @@
--- What the proofs of the functions cite.
-pub mod Translations
-pub mod Taking
-pub mod Meeting

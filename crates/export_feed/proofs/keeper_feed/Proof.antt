@@ -1,0 +1,19 @@
+-- `export_feed::keeper_feed` meets its contract, by those of `feed` and `code`. Assumes nothing.
+use mathlib.Core.Path.{ap, _∙_}
+use borrow.Author.Needs.{needs}
+use Rattle.model.specs.Feed.{Fed}
+use Rattle.export_feed.specs.Fed.{fedCode}
+use Rattle.export_feed.proofs.keeper_feed.Statement.{statement}
+use Rattle.export_feed.proofs.keeper_feed.Tie as tie
+
+returns : tie.Need-returns
+returns c =
+    let fed = c .before .before .before .before .before .before .feed .ensures in
+    record {
+      code = c .code .ensures ∙ ap (λ (f : Fed). fedCode (f .number) (f .replies)) fed;
+      left = ap (λ (f : Fed). f .buffer) fed;
+      state = ap (λ (f : Fed). f .state) fed;
+    }
+
+pub keeper-feed-spec : {M : Type 1} → statement M
+keeper-feed-spec = tie.close (tie.spec (λ c κs. search needs) (λ c κs. search needs) (λ c. search needs) returns)

@@ -1,0 +1,11 @@
+-- `export_states::keeper_lowest` meets its contract. Assumes nothing.
+use Rattle.export_states.proofs.Indexing.{lowest-is}
+use borrow.Author.Needs.{needs}
+use Rattle.export_states.proofs.keeper_lowest.Statement.{statement}
+use Rattle.export_states.proofs.keeper_lowest.Tie as tie
+
+returns : tie.Need-returns
+returns c = lowest-is (c .before .before .index .ensures) (c .lowest-member .ensures)
+
+pub keeper-lowest-spec : {M : Type 1} → statement M
+keeper-lowest-spec = tie.close (tie.spec (λ c κs. search needs) (λ c κs. search needs) returns)

@@ -1,0 +1,109 @@
+// The memory of a bench cell by cell, the algorithms over it and one record, as functions that Rust links.
+ghost use mathlib.Core.Path.{_≡_};
+ghost use Rattle.memory.specs.Layout.{BYTES, WORDS, stateIn};
+ghost use Rattle.request_answer.specs.Promises.{replyOf};
+ghost use Rattle.wakeset.specs.Marks.{Above};
+ghost use Rattle.model.specs.SoundTest.{soundTest};
+ghost use Rattle.export_states.specs.Answers.{packed, WakeSetIs, LowestIs, StatusSet, StepIs};
+
+mod cells;
+
+use cells::wide8;
+use memory::BYTES;
+use memory::WORDS;
+use model::ROWS;
+use record_step::Record;
+use request_answer::Reply;
+
+// How many bytes a bench has, and how many words.
+#[no_mangle]
+pub extern "C" fn keeper_bytes() -> u32
+    ensures { λ r. ⌜ r ≡ BYTES ⌝ }
+{
+    BYTES as u32
+}
+
+#[no_mangle]
+pub extern "C" fn keeper_words() -> u32
+    ensures { λ r. ⌜ r ≡ WORDS ⌝ }
+{
+    WORDS as u32
+}
+
+// The marks of the wake set of device t.
+#[no_mangle]
+pub extern "C" fn keeper_wake_set<'a>(
+    bytes: &'a [u8; BYTES],
+    words: &'a [u32; WORDS],
+    t: u8,
+    out: &mut [bool; ROWS],
+)
+    ensures { λ _. ⌜ WakeSetIs (now (bytes .entry)) (now (words .entry)) t (now (out .exit)) ⌝ }
+{
+    let first = links::index(bytes, words);
+    *out = wakeset::wake_set(bytes, &first, t);
+}
+
+// The lowest member of the wake set of device t; n where it has none.
+#[no_mangle]
+pub extern "C" fn keeper_lowest<'a>(bytes: &'a [u8; BYTES], words: &'a [u32; WORDS], t: u8) -> u8
+    ensures { λ r. ⌜ LowestIs (now (bytes .entry)) (now (words .entry)) t r ⌝ }
+{
+    let first = links::index(bytes, words);
+    wakeset::lowest_member(bytes, &first, t)
+}
+
+// How many parents stand above device p.
+#[no_mangle]
+pub extern "C" fn keeper_parents_above<'a>(bytes: &'a [u8; BYTES], p: u8) -> u8
+    ensures { λ r. ⌜ Above (now (bytes .entry)) p r ⌝ }
+{
+    wakeset::parents_above(bytes, p)
+}
+
+// The status of device p becomes v, and the counts follow.
+#[no_mangle]
+pub extern "C" fn keeper_set_status(bytes: &mut [u8; BYTES], words: &mut [u32; WORDS], p: u8, v: u8)
+    ensures { λ _. ⌜ StatusSet p v (now (bytes .entry)) (now (words .entry)) (now (bytes .exit)) (now (words .exit)) ⌝ }
+{
+    let first = links::index(bytes, words);
+    counts::set_status(bytes, words, &first, p, v);
+}
+
+// The bench is sound.
+#[no_mangle]
+pub extern "C" fn keeper_sound<'a>(bytes: &'a [u8; BYTES], words: &'a [u32; WORDS]) -> bool
+    ensures { λ r. ⌜ r ≡ soundTest (stateIn (now (bytes .entry)) (now (words .entry))) ⌝ }
+{
+    sound_callback::sound(bytes, words)
+}
+
+// A reply as one number, from the low byte on: its kind, its device and its code.
+fn pack(reply: Reply) -> u32
+    ensures { λ r. ⌜ r ≡ packed (replyOf reply) ⌝ }
+{
+    let code = reply.code as u32;
+    wide8(reply.kind) + 256 * wide8(reply.device) + 65536 * code
+}
+
+// One record: the reply to it as one number.
+#[no_mangle]
+pub extern "C" fn keeper_step(
+    bytes: &mut [u8; BYTES],
+    words: &mut [u32; WORDS],
+    kind: u8,
+    device: u8,
+    value: u16,
+) -> u32
+    ensures { λ r. ⌜ StepIs (now (bytes .entry)) (now (words .entry)) (record { kind = kind; device = device; value = value })
+        (now (bytes .exit)) (now (words .exit)) r ⌝ }
+{
+    let first = links::index(bytes, words);
+    let record = Record {
+        kind: kind,
+        device: device,
+        value: value,
+    };
+    let reply = record_step::step(bytes, words, &first, record);
+    pack(reply)
+}

@@ -1,0 +1,2 @@
+-- The laws of the translations.
+pub mod Translations

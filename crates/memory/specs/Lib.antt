@@ -1,0 +1,4 @@
+pub mod Layout
+pub mod Stored
+pub mod Cells
+pub mod Ready

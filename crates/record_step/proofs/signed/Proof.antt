@@ -1,0 +1,20 @@
+-- `record_step::signed` meets its contract. Assumes nothing.
+use mathlib.Core.Path.{_∙_}
+use Prim.Native.Nat.{_-_, _<_}
+use native.Mathlib.Omega.{arith}
+use Rattle.record_step.proofs.Signs.{low, signed-low, less, signed-high, fits, through}
+use borrow.Author.Needs.{needs}
+use Rattle.record_step.proofs.signed.Statement.{statement}
+use Rattle.record_step.proofs.signed.Tie as tie
+
+returns : tie.Need-returns
+returns c = low _ (c .if1 .taken) ∙ signed-low _ (c .if1 .taken)
+
+sub-result : tie.Need-sub-result
+sub-result c = let l : 65535 - c .before .args .value < 32768 = (let z = c .if1 .left in omega arith) in rw (low _ l, less (65535 - c .before .args .value)) (fits _ l)
+
+returns-2 : tie.Need-returns-2
+returns-2 c = let l : 65535 - c .before .args .value < 32768 = (let z = c .if1 .left in omega arith) in let h = c .before .fits .value in rw (low _ l, less (65535 - c .before .args .value)) (through _ (fits _ l) ∙ signed-high _ (c .if1 .left) (omega arith))
+
+pub signed-spec : {M : Type 1} → statement M
+signed-spec = tie.close (tie.spec (λ c. search needs) returns (λ c. search needs) (λ c. search needs) sub-result returns-2)

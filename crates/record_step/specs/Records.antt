@@ -1,0 +1,65 @@
+-- The constant tables of kinds and the open callback as the code has them, and what one record promises. Assumes nothing.
+use mathlib.Core.Path.{_≡_}
+use mathlib.Core.Bool.{Bool, true, false}
+use mathlib.Core.List.{List, _∷_, []}
+use Prim.Native.Nat.{ℕ, _≤_}
+use lib.Dec.{eqb}
+use lib.IntN.{pos, negsuc}
+use Rattle.model.specs.Logic.{if_then_else_}
+use Rattle.model.specs.State.{State}
+use Rattle.model.specs.Records.{Rec, Bounds, LAST, RESULT, allowed}
+use Rattle.model.specs.Steps.{request, recordStep}
+use Rattle.memory.specs.Layout.{stateIn}
+use Rattle.links.specs.Firsts.{Indexed}
+use Rattle.request_answer.specs.declared.Reply.{Reply}
+use Rattle.request_answer.specs.Promises.{replyOf, LeadsBy}
+use Rattle.record_step.specs.declared.CallbackKind.the-variants.{Suspend, Resume, Idle}
+use Rattle.record_step.specs.declared.Callback.{Callback}
+use Rattle.record_step.specs.declared.Callback.the-variants.{None, Open}
+use Rattle.record_step.specs.declared.Record.{Record}
+use Rattle.record_step.specs.declared.Bounds as declared
+
+abbrev pub recOf : Record → Rec
+recOf r = record { kind = r .kind; device = r .device; value = r .value }
+
+-- ---- the constant tables, a column of the model's table each
+abbrev pub noBounds : declared.Bounds
+noBounds = record { 0 = pos 0; 1 = pos 0 }
+
+abbrev pub boundsTable : List declared.Bounds
+boundsTable =
+    noBounds ∷ noBounds ∷ noBounds ∷ noBounds ∷ noBounds ∷ noBounds ∷ noBounds ∷ noBounds ∷ noBounds ∷ noBounds ∷ noBounds ∷ noBounds
+    ∷ record { 0 = pos 0; 1 = pos 1 } ∷ record { 0 = negsuc 4094; 1 = pos 0 } ∷ []
+
+abbrev pub wholeTable : List Bool
+wholeTable = false ∷ false ∷ false ∷ false ∷ false ∷ false ∷ false ∷ false ∷ false ∷ false ∷ false ∷ false ∷ false ∷ false ∷ []
+
+abbrev pub alwaysTable : List Bool
+alwaysTable = false ∷ false ∷ false ∷ false ∷ false ∷ false ∷ false ∷ false ∷ false ∷ false ∷ false ∷ false ∷ false ∷ true ∷ []
+
+-- ---- the open callback by its kind's number: every number but 0 to 2 is read as idle, as the model does
+unfoldable pub openedAs : ℕ → ℕ → ℕ → Callback
+openedAs kind asked target =
+    if eqb kind 0 then None
+    else if eqb kind 1 then Open Suspend asked target
+    else if eqb kind 2 then Open Resume asked target
+    else Open Idle asked target
+
+-- the open callback of a state
+abbrev pub openIn : State → Callback
+openIn s = openedAs (s .callback .kind) (s .callback .asked) (s .callback .target)
+
+-- ---- promises
+-- a request: a kind that is no result, with a value that it allows
+pub record Requested (kind v : ℕ) : Type 0 where
+  pub low : 1 ≤ kind
+  pub high : kind ≤ LAST
+  pub other : kind ≡ RESULT → ⊥
+  pub fits : allowed kind v ≡ true
+
+pub record RequestLeads (kind v : ℕ) (first bytes₀ words₀ : List ℕ) (p : ℕ) (bytes words : List ℕ) (r : Reply) : Type 0 where
+  pub is : Requested kind v → LeadsBy (λ s p. request s kind p v) first bytes₀ words₀ p bytes words r
+
+-- a whole record, from a ready state whose links the index is of (`sound-stepped` in proofs/Stepping.antt: from a sound state)
+pub record Stepped (first bytes₀ words₀ : List ℕ) (r : Rec) (bytes words : List ℕ) (reply : Reply) : Type 0 where
+  pub is : Indexed (stateIn bytes₀ words₀) first → recordStep (stateIn bytes₀ words₀) r ≡ record { state = stateIn bytes words; reply = replyOf reply }

@@ -1,0 +1,17 @@
+-- `replay_text::line::number` meets its contract. Assumes nothing.
+use mathlib.Core.Path.{_∙_}
+use Prim.Native.Nat.{_^_, _<_}
+use Rattle.replay_text.proofs.Digits.{decimal-digits}
+use Rattle.replay_text.proofs.line.number.Statement.{statement}
+use Rattle.replay_text.proofs.line.number.Tie as tie
+use borrow.Author.Needs.{needs}
+
+returns : tie.Need-returns
+returns c =
+    let d = c .before .before .decimal in
+    let small : c .before .before .before .before .args .x < 2 ^ 64 = search needs in
+    let e = d .ensures .1 .1 ∙ decimal-digits (d .result) (c .before .before .before .before .args .x) small (d .ensures .1 .0) in
+    c .word .ensures ∙ rw e
+
+pub number-spec : {M : Type 1} → statement M
+number-spec = tie.close (tie.spec (λ c κs. search needs) (λ c. search needs) (λ c. search needs) (λ c κs. search needs) returns)

@@ -1,0 +1,20 @@
+-- The status is set, then the callback. Assumes nothing.
+use Rattle.model.specs.Requests.{askSuspend}
+use Rattle.memory.proofs.Readiness.{long-turned}
+use borrow.Author.Needs.{needs}
+use Rattle.request_suspend.proofs.ask_suspend.Statement.{statement}
+use Rattle.request_suspend.proofs.ask_suspend.Tie as tie
+
+returns : tie.Need-returns
+unfolding askSuspend
+returns c =
+    let opened = c .before in
+    record {
+      is =
+          λ h l.
+          let set = opened .before .before .set-status .ensures .is h l in
+          rw (opened .set-callback .ensures _ (long-turned _ _ _ _ _ (h .ready) set), set, c .ask .ensures);
+    }
+
+pub ask-suspend-spec : {M : Type 1} → statement M
+ask-suspend-spec = tie.close (tie.spec (λ c κs. search needs) (λ c κs. search needs) (λ c κs. search needs) returns)

@@ -1,0 +1,33 @@
+-- `sound_columns::links_ascend` meets its contract. The invariant: `good` is the test of those passed. Assumes nothing.
+use Prim.Native.Nat.{_-_, _≤_}
+use native.Mathlib.Omega.{arith}
+use Rattle.model.specs.Limits.{LINKS}
+use Rattle.model.specs.Logic.{all}
+use Rattle.sound_columns.specs.Parts.{ascendsIn}
+use Rattle.sound_columns.specs.Answers.{Says}
+use Rattle.sound_columns.proofs.Saying.{says-none, says-next, says-done}
+use borrow.Author.Needs.{needs}
+use Rattle.sound_columns.proofs.links_ascend.Statement.{statement}
+use Rattle.sound_columns.proofs.links_ascend.Tie as tie
+
+abbrev Inv-loop : tie.InvT-loop
+Inv-loop bytes m good₀ i₀ good i = (i ≤ (m - 1)) × Says (λ s. all (ascendsIn (s .wiring)) i) bytes good
+
+abbrev μ-loop : tie.MeasureT-loop
+μ-loop bytes m good₀ i₀ good i = (m - 1) - i
+
+loop-holds : tie.Need-loop-holds Inv-loop μ-loop
+loop-holds c = (omega arith, says-none _)
+
+loop-again : tie.Need-loop-again Inv-loop μ-loop
+loop-again c = let one = c .before in (omega arith, says-next _ _ (one .link-ascends .ensures) (one .before .before .loop .inv .1) (c .both .ensures))
+
+returns : tie.Need-returns Inv-loop μ-loop
+returns c = says-done _ _ _ (c .before .loop .inv .0) (omega arith) (c .before .loop .inv .1)
+
+pub links-ascend-spec : {M : Type 1} → statement M
+unfolding LINKS
+links-ascend-spec =
+    tie.close
+    (tie.spec Inv-loop μ-loop loop-holds (λ c. omega arith) (λ c κs. omega arith) (λ c κs. search needs) (λ c. omega arith)
+    (λ c. omega arith) loop-again returns)

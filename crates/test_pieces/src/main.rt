@@ -1,0 +1,4 @@
+// Pieces of log: the cases stand in `stdin`, a test script.
+fn main() {
+    test_script::run();
+}

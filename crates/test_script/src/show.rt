@@ -1,0 +1,153 @@
+// What is written to standard output.
+use crate::texts;
+use crate::texts::say;
+use keeper_bench::Bench;
+use keeper_questions::MemberAnswer;
+use keeper_questions::NumberAnswer;
+use keeper_questions::Status;
+use keeper_questions::StatusAnswer;
+use memory::BYTES;
+use memory::WORDS;
+
+// An answer from here on is a refusal: its number is what is over.
+pub const REFUSAL: u32 = 65536;
+
+// The place of no names.
+pub const NUMBER: usize = 0;
+
+pub fn text(s: &[u8]) {
+    io::write_all(libc::STDOUT_FILENO, s);
+}
+
+// Text k of some, a line each; none past the last.
+pub fn nth(texts: &[u8], k: usize) {
+    let w = test_words::word(texts, k, b'\n');
+    let start = w.start;
+    let stop = w.stop;
+    text(&texts[start..stop]);
+}
+
+// A text and a number.
+pub fn field(k: usize, x: u64) {
+    say(k);
+    io::print_decimal(libc::STDOUT_FILENO, x);
+}
+
+// One of two places.
+pub fn pick(first: bool, a: usize, b: usize) -> usize {
+    if first {
+        return a;
+    }
+    b
+}
+
+// A byte in hexadecimal, after a blank.
+pub fn byte(x: u32) {
+    say(texts::BLANK);
+    say(texts::DIGIT + (x / 16 % 16) as usize);
+    say(texts::DIGIT + (x % 16) as usize);
+}
+
+// The four bytes of a record or a reply, the lowest first.
+pub fn four(x: u32) {
+    byte(x);
+    byte(x / 256);
+    byte(x / 65536);
+    byte(x / 16777216);
+}
+
+fn status_number(s: Status) -> u32 {
+    match s {
+        Status::Suspended => 0,
+        Status::Resuming => 1,
+        Status::Active => 2,
+        Status::Suspending => 3,
+    }
+}
+
+// The answers to questions as numbers.
+pub fn status_answer(a: StatusAnswer) -> u32 {
+    match a {
+        StatusAnswer::Unsound => REFUSAL + 21,
+        StatusAnswer::Unknown => REFUSAL + 24,
+        StatusAnswer::Is(s) => status_number(s),
+    }
+}
+
+pub fn number_answer(a: NumberAnswer) -> u32 {
+    match a {
+        NumberAnswer::Unsound => REFUSAL + 21,
+        NumberAnswer::Unknown => REFUSAL + 24,
+        NumberAnswer::Is(x) => x,
+    }
+}
+
+pub fn member_answer(a: MemberAnswer) -> u32 {
+    match a {
+        MemberAnswer::Unsound => REFUSAL + 21,
+        MemberAnswer::Unknown => REFUSAL + 24,
+        MemberAnswer::Is(x) => x as u32,
+    }
+}
+
+// An answer: the number of the refusal, or what was asked for, by name where there are names.
+pub fn answer(names: usize, x: u32) {
+    if REFUSAL <= x {
+        field(texts::NOT_TOLD, (x - REFUSAL) as u64);
+        return;
+    }
+    if names == NUMBER {
+        field(texts::BLANK, x as u64);
+        return;
+    }
+    say(names % 128 + (x % 4) as usize);
+}
+
+// A count of a device, as the question tells it.
+fn count(k: usize, a: NumberAnswer) {
+    say(k);
+    answer(NUMBER, number_answer(a));
+}
+
+// The open callback, if there is one.
+fn callback(kind: u8, asked: u8, target: u8) {
+    if kind == 0 {
+        return;
+    }
+    say(texts::OPEN);
+    say(texts::CALLBACK + (kind % 4) as usize);
+    field(texts::OF, asked as u64);
+    field(texts::FOR, target as u64);
+}
+
+// The cells of device p that no question tells, and the open callback.
+fn cells<'a>(bytes: &'a [u8; BYTES], words: &'a [u32; WORDS], p: u8) {
+    let error = memory::error(words, p);
+    field(texts::DEPTH, memory::depth(bytes, p) as u64);
+    field(
+        pick(error == 0, texts::ERROR, texts::NEGATIVE),
+        error as u64,
+    );
+    say(pick(
+        memory::ignore(bytes, p) == 0,
+        texts::NOTHING,
+        texts::IGNORES,
+    ));
+    callback(
+        memory::callback(bytes),
+        memory::asked(bytes),
+        memory::target(bytes),
+    );
+}
+
+// The state of device p, and the open callback.
+pub fn state(b: Bench, p: u8) {
+    answer(
+        texts::SUSPENDED,
+        status_answer(keeper_questions::status_of(b, p)),
+    );
+    count(texts::USAGE, keeper_questions::usage_count(b, p));
+    count(texts::CHILDREN, keeper_questions::child_count(b, p));
+    count(texts::HOLDS, keeper_questions::user_holds(b, p));
+    cells(&b.bytes, &b.words, p);
+}

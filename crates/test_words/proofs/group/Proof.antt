@@ -1,0 +1,37 @@
+-- `test_words::group` is safe: a scan from the start stops within the text. Assumes nothing.
+use native.Mathlib.Omega.{arith}
+use borrow.Author.Needs.{needs}
+use Rattle.test_words.proofs.group.Statement.{statement}
+use Rattle.test_words.proofs.group.Tie as tie
+
+part-readable-end : tie.Need-part-readable-end
+part-readable-end c = c .before .before .before .scan .ensures .high (omega arith)
+
+part-copies-end : tie.Need-part-copies-end
+part-copies-end c = c .before .before .before .before .before .before .before .scan .ensures .high (omega arith)
+
+pub group-spec : {M : Type 1} → statement M
+group-spec =
+    tie.close
+    (tie.spec
+    (λ c κs. search needs)
+    (λ c κs. search needs)
+    (λ c κs. search needs)
+    (λ c κs. search needs)
+    (λ c. search needs)
+    (λ c. search needs)
+    part-readable-end
+    (λ c. search needs)
+    (λ c. search needs)
+    (λ c. search needs)
+    (λ c κs. search needs)
+    (λ c. search needs)
+    (λ c. search needs)
+    part-copies-end
+    (λ c. search needs)
+    (λ c. search needs)
+    (λ c. search needs)
+    (λ c κs. search needs)
+    (λ c. search needs)
+    (λ c. search needs)
+    (λ c. search needs))
