@@ -1,2 +1,0 @@
--- The laws of the columns.
-pub mod Columns
