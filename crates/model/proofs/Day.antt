@@ -1,7 +1,6 @@
 -- P1 to P14 as a single claim over a list, and with them the slips of document 01, worked out from the day's table. Assumes nothing.
 use mathlib.Core.Path.{_≡_, refl}
 use mathlib.Core.List.{List, [], _∷_, _++_, flatMap}
-use Prim.Native.Nat.{ℕ}
 use Rattle.model.specs.Limits.{DEVICES, LINKS, ROWS}
 use Rattle.model.specs.Logic.{if_then_else_, _and_, _or_, any, first, count, tally, column}
 use Rattle.model.specs.Table.{markGood, versionGood, limitsGood, lengthGood, parentGood, endsGood, before, deviceGood, linkFits, ascends, linkGood, badDevice, badLink, entriesAnswer, tableAnswer, cell, padded, wiringIn}

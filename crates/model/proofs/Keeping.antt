@@ -1,6 +1,5 @@
 -- What a change of one column keeps of soundness. Assumes nothing.
-use mathlib.Core.Path.{_≡_, refl, sym, _∙_}
-use mathlib.Core.Bool.{Bool, true, false}
+use mathlib.Core.Path.{_≡_, refl}
 use mathlib.Core.List.{List}
 use Prim.Native.Nat.{ℕ, _<_, _≤_}
 use native.Mathlib.Omega.{arith}
@@ -8,10 +7,10 @@ use native.Mathlib.Decide.{decLt}
 use lib.ListN.{length, getD, set}
 use lib.Seq.{getD-set-other}
 use Rattle.model.specs.Limits.{ROWS, MAXHOLDS, MAXDEPTH, MAXERROR}
-use Rattle.model.specs.State.{State, SUSPENDED, RESUMING, ACTIVE, SUSPENDING, statusAt, linkedAt, childrenAt, isChild, isLive, childCount, linkCount, childrenOf, linkedOf, withIgnore, withHolds, withDepth, withError, withStatus, withCarry, closed}
+use Rattle.model.specs.State.{State, RESUMING, ACTIVE, SUSPENDING, statusAt, linkedAt, childrenAt, isChild, isLive, childCount, linkCount, childrenOf, linkedOf, withIgnore, withHolds, withDepth, withError, withStatus, withCarry, closed}
 use Rattle.model.specs.WakeSet.{Needs, child, link}
 use Rattle.model.specs.Requests.{suspendTest}
-use Rattle.model.specs.Sound.{Column, TableRules, Supply, Kept, Carried, Steady, OthersSteady, NoneOpen, CallbackRules, noneOpen, suspendOpen, resumeOpen, idleOpen, Sound}
+use Rattle.model.specs.Sound.{Column, Supply, Kept, Carried, Steady, OthersSteady, NoneOpen, CallbackRules, noneOpen, suspendOpen, resumeOpen, idleOpen, Sound}
 use Rattle.model.proofs.Basics.{at-set, column-set, few-rows}
 use Rattle.model.proofs.Counting.{child-counted, link-counted}
 use Rattle.model.proofs.WakeSet.{apart}

@@ -8,16 +8,15 @@ use native.Mathlib.Omega.{arith}
 use native.Mathlib.Decide.{decLt, ℕ-discrete}
 use native.Mathlib.Nat.{eq-or-lt-of-le}
 use native.Mathlib.Numerals.{add-one}
-use lib.ListN.{length, getD, replicate, length-replicate, List·getD-eq-default}
-use lib.Dec.{ltb, leb, eqb}
-use borrow.Author.Tests.{ltb-true, ltb-false, leb-true, eqb-true, eq-eqb, ne-eqb, lt-ltb, le-ltb, not-true, not-false}
+use lib.ListN.{getD, replicate, length-replicate, List·getD-eq-default}
+use borrow.Author.Tests.{ltb-false, eq-eqb, ne-eqb, lt-ltb, le-ltb, not-false}
 use Rattle.model.specs.Limits.{DEVICES, LINKS, ROWS, NONE}
-use Rattle.model.specs.Logic.{if_then_else_, _and_, _or_, bit, first, column}
+use Rattle.model.specs.Logic.{if_then_else_, _and_, _or_, first}
 use Rattle.model.specs.Table.{Wiring, TableAnswer, devicesIn, linksIn, deviceByte, linkByte, limitsGood, parentGood, endsGood, before, deviceGood, linkFits, ascends, linkGood, badDevice, badLink, entriesAnswer, tableAnswer, cell, padded, wiringIn}
-use Rattle.model.specs.State.{State, holdsAt, isChild, isLive, childCount, linkCount, childrenOf, linkedOf, atRest, loaded, emptyState, loadOf}
+use Rattle.model.specs.State.{holdsAt, isChild, isLive, childCount, linkCount, childrenOf, linkedOf, atRest, loaded, emptyState, loadOf}
 use Rattle.model.specs.Sound.{Column, Ordered, TableRules, noneOpen, Sound}
 use Rattle.model.specs.SoundTest.{tableTest, keptTest, soundTest}
-use Rattle.model.proofs.Basics.{by-if, never, and-parts, or-cases, first-least, few-rows, few-devices}
+use Rattle.model.proofs.Basics.{by-if, first-least, few-rows, few-devices}
 use Rattle.model.proofs.Logic.{tests}
 use Rattle.model.proofs.Counting.{at-column, length-column, column-zero, tally-none}
 use Rattle.model.proofs.Running.{nothing-carried}

@@ -1,8 +1,8 @@
 -- Demand 3 at the level of definitions: a list of pieces and the plain keeper. Assumes nothing.
-use mathlib.Core.Path.{_≡_, refl, sym, _∙_, ap, subst}
-use mathlib.Core.Bool.{Bool, true, false, not}
-use mathlib.Core.List.{List, [], _∷_, _++_, append-assoc, map}
-use Prim.Native.Nat.{ℕ, _+_, _*_, _/_, _%_, _<_, _≤_}
+use mathlib.Core.Path.{_≡_, refl, _∙_, ap, subst}
+use mathlib.Core.Bool.{Bool, true, false}
+use mathlib.Core.List.{List, [], _∷_, _++_, map}
+use Prim.Native.Nat.{ℕ, _+_, _*_, _%_, _<_, _≤_}
 use native.Mathlib.Omega.{arith}
 use lib.ListN.{length, getD, length-append, length-drop, take, drop}
 use lib.Seq.{take-at, drop-at}
@@ -10,12 +10,12 @@ use lib.Dec.{eqb}
 use borrow.Author.Tests.{ltb-false, eqb-true}
 use Rattle.model.specs.Limits.{ROWS}
 use Rattle.model.specs.Logic.{if_then_else_}
-use Rattle.model.specs.State.{State, holdsAt, usage, linkCount, loadOf}
+use Rattle.model.specs.State.{State, holdsAt, loadOf}
 use Rattle.model.specs.Records.{replyBytes}
 use Rattle.model.specs.Steps.{Exchange, run, repliesIn}
 use Rattle.model.specs.Sound.{Sound}
 use Rattle.model.specs.Feed.{Piece, Fed, pieceAnswer, feedAnswer, over, feedOf}
-use Rattle.model.specs.Demand3.{feedAll, handedBack, joined, carriedAfter, refusals, takenBytes, isGet, isPut, counted, Agrees, Demand3}
+use Rattle.model.specs.Demand3.{feedAll, handedBack, joined, carriedAfter, refusals, takenBytes, Agrees, Demand3}
 use Rattle.model.proofs.Basics.{by-if}
 use Rattle.model.proofs.Counting.{at-linked}
 use Rattle.model.proofs.Keeping.{room}

@@ -1,6 +1,6 @@
 -- Runs of the plain keeper: soundness, how many replies, one run after another, and what the holds come to. Assumes nothing.
 use mathlib.Core.Path.{_≡_, refl, sym, _∙_, ap}
-use mathlib.Core.Bool.{Bool, true, false, not}
+use mathlib.Core.Bool.{Bool, true, false}
 use mathlib.Core.List.{List, [], _∷_, _++_, append-assoc}
 use mathlib.Core.Logic.{_⊎_, ⊎-elim}
 use Prim.Native.Nat.{ℕ, zero, suc, _<_, _≤_, _+_, _-_, _*_, _/_, _%_}
@@ -8,18 +8,18 @@ use native.Mathlib.Omega.{arith}
 use native.Mathlib.Decide.{ℕ-discrete}
 use lib.ListN.{length, getD, set, length-set, length-append, replicate}
 use lib.Seq.{getD-set-same, getD-set-other}
-use lib.Dec.{ltb, leb, eqb}
-use borrow.Author.Tests.{ltb-true, ltb-false, eqb-true, eqb-false, eq-eqb, ne-eqb}
-use Rattle.model.specs.Logic.{if_then_else_, _and_, _or_, bit}
+use lib.Dec.{eqb}
+use borrow.Author.Tests.{ltb-true, ltb-false, eqb-false, eq-eqb, ne-eqb}
+use Rattle.model.specs.Logic.{_and_, _or_, bit}
 use Rattle.model.specs.State.{State, Carry, holdsAt, withHolds, withCarry}
-use Rattle.model.specs.Records.{Rec, Reply, Done, finished}
+use Rattle.model.specs.Records.{Rec, Done, finished}
 use Rattle.model.specs.Requests.{get, put, suspendTest, idle, askResume, wake, getWake, putIdle}
-use Rattle.model.specs.Steps.{Exchange, Run, fourth, noneWait, recordStep, byteStep, run, repliesIn}
+use Rattle.model.specs.Steps.{Exchange, Run, fourth, noneWait, recordStep, byteStep, run}
 use Rattle.model.specs.Sound.{Carried, Sound}
 use Rattle.model.specs.Demand3.{isGet, isPut, effective, counted}
 use Rattle.model.proofs.Basics.{by-if, at-set}
 use Rattle.model.proofs.Logic.{tests}
-use Rattle.model.proofs.Keeping.{KeptIn, room, callback-carry}
+use Rattle.model.proofs.Keeping.{room, callback-carry}
 use Rattle.model.proofs.Steps.{by-kind, by-record}
 use Rattle.model.proofs.Setters.{Stable, but-holds, on-idle, on-wake, on-result, carry-kept}
 use Rattle.model.proofs.Records.{record-sound}

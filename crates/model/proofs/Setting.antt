@@ -1,15 +1,15 @@
 -- Soundness is kept by kinds 10, 11 and 12. Assumes nothing.
-use mathlib.Core.Path.{_≡_, refl, sym, _∙_}
-use mathlib.Core.Bool.{Bool, true, false, not}
+use mathlib.Core.Path.{_≡_, sym, _∙_}
+use mathlib.Core.Bool.{false, not}
 use Prim.Native.Nat.{ℕ, _<_, _≤_}
 use native.Mathlib.Omega.{arith}
 use native.Mathlib.Decide.{ℕ-discrete}
 use native.Mathlib.Nat.{le-of-eq}
-use lib.ListN.{length, getD, set}
+use lib.ListN.{getD, set}
 use lib.Seq.{getD-set-same, getD-set-other}
 use lib.Dec.{ltb, eqb}
 use borrow.Author.Tests.{ltb-false}
-use Rattle.model.specs.Logic.{if_then_else_, _and_, _or_}
+use Rattle.model.specs.Logic.{_and_, _or_}
 use Rattle.model.specs.State.{State, SUSPENDED, RESUMING, ACTIVE, statusAt, childrenAt, withStatus, withIgnore}
 use Rattle.model.specs.WakeSet.{Needs, child, link}
 use Rattle.model.specs.Requests.{parentDown, supplierDown, setActive, needed, setSuspended, ignoreChildren}

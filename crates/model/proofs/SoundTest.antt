@@ -1,22 +1,21 @@
 -- The soundness test and the soundness facts are one, for every state whose columns have their rows. Assumes nothing.
 use mathlib.Core.Path.{_≡_, refl, sym, _∙_}
-use mathlib.Core.Bool.{Bool, true, false, not}
+use mathlib.Core.Bool.{true}
 use mathlib.Core.List.{List}
 use mathlib.Core.Logic.{_↔_}
-use Prim.Native.Nat.{ℕ, _<_, _≤_, _+_, _-_, _%_}
+use Prim.Native.Nat.{ℕ, _<_, _≤_}
 use native.Mathlib.Omega.{arith}
 use native.Mathlib.Decide.{decLt}
 use lib.ListN.{length, getD, List·getD-eq-default}
 use lib.Seq.{ext-getD}
-use lib.Dec.{ltb, leb, eqb}
 use borrow.Author.Tests.{eqb-true, eq-eqb, ne-eqb}
-use Rattle.model.specs.Limits.{DEVICES, LINKS, ROWS, MAXHOLDS, MAXDEPTH, MAXERROR}
-use Rattle.model.specs.Logic.{if_then_else_, _and_, _or_, _implies_, all}
+use Rattle.model.specs.Limits.{LINKS, ROWS, MAXHOLDS, MAXDEPTH, MAXERROR}
+use Rattle.model.specs.Logic.{if_then_else_}
 use Rattle.model.specs.Table.{Wiring, parentGood, endsGood}
-use Rattle.model.specs.State.{State, Devices, Carry, SUSPENDED, SUSPENDING, statusAt, errorAt, depthAt, childrenOf, linkedOf}
-use Rattle.model.specs.WakeSet.{Needs, child, link, InWake, Lowest, inWake, lowest}
+use Rattle.model.specs.State.{State, Devices, Carry, SUSPENDED, SUSPENDING, statusAt, errorAt, depthAt}
+use Rattle.model.specs.WakeSet.{Needs, child, link, InWake, Lowest, lowest}
 use Rattle.model.specs.Requests.{barred}
-use Rattle.model.specs.Sound.{Column, Ordered, TableRules, Supply, Kept, Carried, Steady, OthersSteady, CallbackRules, noneOpen, suspendOpen, resumeOpen, idleOpen, Sound}
+use Rattle.model.specs.Sound.{Column, Ordered, TableRules, Supply, Carried, Steady, OthersSteady, CallbackRules, noneOpen, suspendOpen, resumeOpen, idleOpen, Sound}
 use Rattle.model.specs.SoundTest.{columnTest, tableTest, sameTest, parentSupplies, linkSupplies, supplyTest, keptTest, carriedTest, steadyTest, allSteady, othersSteady, membersClear, noneTest, suspendOpenTest, resumeOpenTest, idleOpenTest, callbackTest, soundTest}
 use Rattle.model.proofs.Basics.{by-if, never, few-rows, and-parts}
 use Rattle.model.proofs.Logic.{tests}

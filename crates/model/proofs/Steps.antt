@@ -1,10 +1,10 @@
 -- What holds of each case of a record holds of every record. Assumes nothing.
 use mathlib.Core.Path.{_≡_, refl}
-use mathlib.Core.Bool.{Bool, true, false, not}
+use mathlib.Core.Bool.{true, false}
 use Prim.Native.Nat.{ℕ, suc, _<_, _≤_}
 use native.Mathlib.Omega.{arith}
 use native.Mathlib.Decide.{ℕ-discrete}
-use lib.Dec.{leb, eqb}
+use lib.Dec.{eqb}
 use borrow.Author.Tests.{leb-true, leb-false, ltb-false, eqb-true, eqb-false, ne-eqb, not-false}
 use Rattle.model.specs.Limits.{EINPROGRESS, minus}
 use Rattle.model.specs.State.{State}

@@ -1,20 +1,20 @@
 -- Soundness is kept by kinds 7 and 8, and by the results of idle and suspend callbacks. Assumes nothing.
 use mathlib.Core.Path.{_≡_, refl, sym, _∙_}
-use mathlib.Core.Bool.{Bool, true, false, not}
-use Prim.Native.Nat.{ℕ, _<_, _≤_, _+_}
+use mathlib.Core.Bool.{false}
+use Prim.Native.Nat.{ℕ, _<_, _≤_}
 use native.Mathlib.Omega.{arith}
 use native.Mathlib.Decide.{decLt}
-use lib.ListN.{length, getD, set}
+use lib.ListN.{getD, set}
 use lib.Seq.{getD-set-same, getD-set-other}
 use lib.Dec.{ltb, eqb}
-use borrow.Author.Tests.{ltb-false, eqb-true, eqb-false, not-false}
+use borrow.Author.Tests.{ltb-false, eqb-false}
 use Rattle.model.specs.Limits.{MAXERROR, minus}
-use Rattle.model.specs.Logic.{if_then_else_, _and_}
+use Rattle.model.specs.Logic.{_and_}
 use Rattle.model.specs.State.{State, SUSPENDED, ACTIVE, SUSPENDING, statusAt, childrenAt, countsChildren, childrenOf, linkedOf, withStatus, withCallback, closed}
 use Rattle.model.specs.Requests.{suspendTest, askSuspend, idle, suspend}
 use Rattle.model.specs.Steps.{idleResult, suspendResult}
 use Rattle.model.specs.Sound.{Carried, Steady, OthersSteady, SuspendOpen, IdleOpen, suspendOpen, idleOpen, Sound}
-use Rattle.model.proofs.Basics.{by-if, never, at-set}
+use Rattle.model.proofs.Basics.{by-if, at-set}
 use Rattle.model.proofs.Logic.{tests}
 use Rattle.model.proofs.Counting.{same-children, same-linked}
 use Rattle.model.proofs.Keeping.{KeptIn, Alone, status-row, kept-status, kept-error, alone-free, none-open, quiet, closing}

@@ -3,14 +3,13 @@ use mathlib.Core.Path.{_≡_, refl}
 use mathlib.Core.Bool.{true, false, not}
 use Prim.Native.Nat.{ℕ, zero, suc, _+_, _≤_, _-_}
 use native.Mathlib.Omega.{arith}
-use lib.ListN.{getD}
-use lib.Dec.{ltb, leb, eqb}
+use lib.Dec.{eqb}
 use lib.IntN.{pos, negℤ}
 use lib.Signed.{leZ}
 use borrow.Author.Tests.{ltb-true, leb-true, eqb-false, ne-eqb, not-true}
 use Rattle.model.specs.Limits.{MAXERROR, minus}
-use Rattle.model.specs.Logic.{if_then_else_, _and_, _or_, all}
-use Rattle.model.specs.Records.{LAST, RESULT, kinds, kindOf, signed, allowed}
+use Rattle.model.specs.Logic.{_and_, _or_, all}
+use Rattle.model.specs.Records.{LAST, RESULT, kinds, kindOf, allowed}
 use Rattle.model.proofs.Basics.{by-if, never, and-parts}
 use Rattle.model.proofs.Logic.{all-iff}
 

@@ -3,19 +3,19 @@
 use mathlib.Core.Path.{_≡_, refl, sym, _∙_}
 use mathlib.Core.Bool.{Bool, true, false}
 use mathlib.Core.List.{List}
-use mathlib.Core.Logic.{_⊎_, ⊎-elim, _↔_}
+use mathlib.Core.Logic.{⊎-elim, _↔_}
 use Prim.Native.Nat.{ℕ, zero, suc, _<_, _≤_, _%_}
 use native.Mathlib.Omega.{arith}
 use native.Mathlib.Decide.{ℕ-discrete, decLt}
 use lib.ListN.{length, getD, set, replicate, length-set, length-replicate, getD-replicate, List·getD-eq-default}
 use lib.Seq.{getD-set-same, getD-set-other}
-use lib.Dec.{ltb, eqb}
+use lib.Dec.{eqb}
 use borrow.Author.Tests.{ltb-true, lt-ltb, eqb-true, eq-eqb}
 use Rattle.model.specs.Limits.{ROWS, NONE}
-use Rattle.model.specs.Logic.{_and_, _or_, any, first}
+use Rattle.model.specs.Logic.{_and_, _or_}
 use Rattle.model.specs.Table.{Wiring}
 use Rattle.model.specs.State.{State, ACTIVE}
-use Rattle.model.specs.WakeSet.{Sleeping, Needs, child, link, InWake, self, next, Lowest, Falls, here, down-to, marked, On, marksChild, marksConsumer, belongs, sweep, wakeMarks, inWake, lowest}
+use Rattle.model.specs.WakeSet.{Sleeping, Needs, child, link, InWake, self, next, Lowest, Falls, here, down-to, On, marksChild, marksConsumer, belongs, sweep, wakeMarks, inWake, lowest}
 use Rattle.model.specs.Sound.{Ordered}
 use Rattle.model.proofs.Basics.{and-parts, and-of, or-cases, or-left, or-right, any-find, any-of, first-passes, first-least, at-set, few-devices, none-rows}
 

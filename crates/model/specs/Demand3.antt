@@ -1,6 +1,6 @@
 -- "Demand 3 in exact words": one claim about a whole list of pieces, at the level of definitions. Assumes nothing.
 use mathlib.Core.Path.{_≡_}
-use mathlib.Core.Bool.{Bool, true, false, not}
+use mathlib.Core.Bool.{Bool, not}
 use mathlib.Core.List.{List, [], _∷_, _++_, map}
 use Prim.Native.Nat.{ℕ, _<_, _+_, _*_, _%_}
 use lib.ListN.{length, take}

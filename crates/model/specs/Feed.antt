@@ -1,5 +1,5 @@
 -- Feeding one piece of log: refusals 21 to 23, and the paragraph that begins "A piece with c carried bytes". Assumes nothing.
-use mathlib.Core.Bool.{Bool, true, false, not}
+use mathlib.Core.Bool.{not}
 use mathlib.Core.List.{List, _++_}
 use Prim.Native.Nat.{ℕ, _+_, _*_, _/_}
 use lib.ListN.{length, drop}

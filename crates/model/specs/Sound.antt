@@ -1,12 +1,12 @@
 -- When a bench is sound (the paragraph after "What the keeper turns away"), as facts. Assumes nothing.
 use mathlib.Core.Path.{_≡_}
 use mathlib.Core.List.{List}
-use mathlib.Core.Bool.{Bool, true, false}
+use mathlib.Core.Bool.{true}
 use Prim.Native.Nat.{ℕ, _<_, _≤_, _+_, _-_}
 use lib.ListN.{getD, length}
 use Rattle.model.specs.Limits.{DEVICES, LINKS, ROWS, NONE, MAXHOLDS, MAXDEPTH, MAXERROR}
 use Rattle.model.specs.Table.{Wiring, before}
-use Rattle.model.specs.State.{State, Devices, Callback, Carry, SUSPENDED, RESUMING, ACTIVE, SUSPENDING, statusAt, errorAt, depthAt, childrenOf, linkedOf}
+use Rattle.model.specs.State.{State, Devices, Callback, Carry, RESUMING, ACTIVE, SUSPENDING, statusAt, errorAt, depthAt, childrenOf, linkedOf}
 use Rattle.model.specs.WakeSet.{Needs, InWake, Lowest}
 use Rattle.model.specs.Requests.{suspendTest}
 

@@ -1,6 +1,6 @@
 -- When a bench is sound, as a test that runs. `proofs/SoundTest.antt` has that the test and the facts of `Sound.antt` agree.
 -- Assumes nothing.
-use mathlib.Core.Bool.{Bool, true, false, not}
+use mathlib.Core.Bool.{Bool, false, not}
 use mathlib.Core.List.{List}
 use Prim.Native.Nat.{ℕ, _+_, _-_, _%_}
 use lib.ListN.{getD}

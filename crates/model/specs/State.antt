@@ -1,6 +1,6 @@
 -- "The state of a part": the state of the bench and of the plain keeper, the counts, and the state of a loaded table.
 -- Assumes nothing.
-use mathlib.Core.Bool.{Bool, true, false, not}
+use mathlib.Core.Bool.{Bool, not}
 use mathlib.Core.List.{List}
 use Prim.Native.Nat.{ℕ, _+_, _%_}
 use lib.ListN.{getD, set, replicate}

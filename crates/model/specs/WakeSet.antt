@@ -5,7 +5,7 @@ use mathlib.Core.Bool.{Bool, true, false}
 use mathlib.Core.List.{List}
 use Prim.Native.Nat.{ℕ, zero, suc, _<_, _≤_, _%_}
 use lib.ListN.{getD, set, replicate}
-use lib.Dec.{ltb, eqb}
+use lib.Dec.{eqb}
 use Rattle.model.specs.Limits.{ROWS, NONE}
 use Rattle.model.specs.Logic.{_and_, _or_, any, first}
 use Rattle.model.specs.Table.{Wiring}

@@ -1,15 +1,14 @@
 -- What a scan of the entries has passed, and what it comes to. Assumes nothing.
-use mathlib.Core.Path.{_≡_, refl, sym, _∙_}
+use mathlib.Core.Path.{_≡_}
 use mathlib.Core.Bool.{Bool, true, false, not}
 use mathlib.Core.List.{List}
 use mathlib.Core.Logic.{_⊎_, ⊎-elim}
 use Prim.Native.Nat.{ℕ, _+_, _<_, _≤_}
 use native.Mathlib.Omega.{arith}
 use native.Mathlib.Nat.{eq-or-lt-of-le}
-use lib.Dec.{ltb}
 use borrow.Author.Tests.{lt-ltb, le-ltb}
-use Rattle.model.specs.Logic.{if_then_else_, _and_, first}
-use Rattle.model.specs.Table.{TableAnswer, devicesIn, linksIn, deviceGood, linkFits, ascends, linkGood, badDevice, badLink, entriesAnswer}
+use Rattle.model.specs.Logic.{if_then_else_, _and_}
+use Rattle.model.specs.Table.{devicesIn, linksIn, deviceGood, linkFits, ascends, linkGood, badDevice, badLink, entriesAnswer}
 use Rattle.model.proofs.Basics.{first-at, first-none}
 
 -- the first p devices and the first i links of a table with n and m of them are good

@@ -1,7 +1,7 @@
 // The words of a line of a test script, and what they stand for: numbers, bytes, names.
 ghost use mathlib.Core.Path.{_≡_};
 ghost use mathlib.Core.Bool.{true};
-ghost use Prim.Native.Nat.{ℕ, _+_, _*_, _%_, _<_, _≤_};
+ghost use Prim.Native.Nat.{_+_, _*_, _%_, _<_, _≤_};
 ghost use lib.ListN.{length, getD, drop};
 ghost use Rattle.test_words.specs.Words.{stops, Scanned, Word, wordIn, Placed};
 ghost use Rattle.test_words.specs.Numbers.{digitOf, joined, valueAfter, minus, numberOf, hexByte, allHex};

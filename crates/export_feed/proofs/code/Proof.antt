@@ -18,4 +18,7 @@ returns-4 : tie.Need-returns-4
 returns-4 c = rw (c .before .answer .given .1) (sym (zero-add _))
 
 pub code-spec : {M : Type 1} → statement M
-code-spec = tie.close (tie.spec (λ c. search needs) (λ c. search needs) (λ c. search needs) (λ c. search needs) (λ c. search needs) (λ c. search needs) returns returns-2 returns-3 returns-4)
+code-spec =
+    tie.close
+    (tie.spec (λ c. search needs) (λ c. search needs) (λ c. search needs) (λ c. search needs) (λ c. search needs) (λ c. search needs) returns
+    returns-2 returns-3 returns-4)

@@ -24,4 +24,6 @@ returns c =
     rw (w .wake-set .ensures .is (b .words) listed (known .0)))
 
 pub in-wake-set-spec : {M : Type 1} → statement M
-in-wake-set-spec = tie.close (tie.spec (λ c κs. search needs) (λ c κs. search needs) (λ c κs. search needs) (λ c. search needs) (λ c κs. search needs) returns)
+in-wake-set-spec =
+    tie.close
+    (tie.spec (λ c κs. search needs) (λ c κs. search needs) (λ c κs. search needs) (λ c. search needs) (λ c κs. search needs) returns)

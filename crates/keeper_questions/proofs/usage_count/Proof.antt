@@ -18,4 +18,7 @@ returns c =
     (λ s k. let l = uses-fit s (a .before .args .device) (simp tests at k) in c .before .number64 .ensures (omega arith) ∙ e)
 
 pub usage-count-spec : {M : Type 1} → statement M
-usage-count-spec = tie.close (tie.spec (λ c κs. search needs) (λ c κs. search needs) (λ c κs. search needs) (λ c κs. search needs) (λ c κs. search needs) (λ c κs. search needs) returns)
+usage-count-spec =
+    tie.close
+    (tie.spec (λ c κs. search needs) (λ c κs. search needs) (λ c κs. search needs) (λ c κs. search needs) (λ c κs. search needs)
+    (λ c κs. search needs) returns)

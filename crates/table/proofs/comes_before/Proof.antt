@@ -2,7 +2,6 @@
 use borrow.Author.Tests.{lt-ltb, le-ltb, eq-eqb, ne-eqb}
 use Rattle.model.specs.Logic.{_and_, _or_}
 use Rattle.model.specs.Table.{before}
-use borrow.Author.Needs.{needs}
 use Rattle.table.proofs.comes_before.Statement.{statement}
 use Rattle.table.proofs.comes_before.Tie as tie
 

@@ -2,7 +2,6 @@
 use borrow.Author.Tests.{lt-ltb, le-ltb}
 use Rattle.model.specs.Logic.{_and_}
 use Rattle.model.specs.Table.{endsGood}
-use borrow.Author.Needs.{needs}
 use Rattle.table.proofs.ends_good.Statement.{statement}
 use Rattle.table.proofs.ends_good.Tie as tie
 

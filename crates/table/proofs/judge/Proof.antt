@@ -31,4 +31,7 @@ unfolding tableAnswer if_then_else_
 returns-6 c = rw (le-ltb _ _ (c .before .before .before .before .before .before .before .before .before .if1 .left), ← c .before .before .before .before .before .before .before .before .mark-good .ensures, not-false (c .before .before .before .before .before .before .before .before .mark-good .result) (c .before .before .before .before .before .before .before .if2 .left), ← c .before .before .before .before .before .before .version-good .ensures, not-false (c .before .before .before .before .before .before .version-good .result) (c .before .before .before .before .before .if3 .left), ← c .before .before .before .before .limits-good .ensures, not-false (c .before .before .before .before .limits-good .result) (c .before .before .before .if4 .left), ← c .before .before .length-good .ensures, not-false (c .before .before .length-good .result) (c .before .if5 .left)) (c .scan .ensures)
 
 pub judge-spec : {M : Type 1} → statement M
-judge-spec = tie.close (tie.spec returns (λ c κs. search needs) returns-2 (λ c κs. search needs) returns-3 (λ c κs. search needs) returns-4 (λ c κs. search needs) returns-5 (λ c κs. search needs) returns-6)
+judge-spec =
+    tie.close
+    (tie.spec returns (λ c κs. search needs) returns-2 (λ c κs. search needs) returns-3 (λ c κs. search needs) returns-4 (λ c κs. search needs)
+    returns-5 (λ c κs. search needs) returns-6)

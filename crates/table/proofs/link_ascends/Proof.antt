@@ -15,4 +15,7 @@ unfolding ascends _or_
 returns-2 c = rw (ne-eqb _ _ (c .before .before .before .before .before .if1 .left), ← c .before .before .before .before .link-byte .ensures, ← c .before .before .before .link-byte2 .ensures, ← c .before .before .link-byte3 .ensures, ← c .before .link-byte4 .ensures) (c .comes-before .ensures)
 
 pub link-ascends-spec : {M : Type 1} → statement M
-link-ascends-spec = tie.close (tie.spec returns (λ c. search needs) (λ c κs. search needs) (λ c. search needs) (λ c κs. search needs) (λ c κs. search needs) (λ c κs. search needs) (λ c κs. search needs) returns-2)
+link-ascends-spec =
+    tie.close
+    (tie.spec returns (λ c. search needs) (λ c κs. search needs) (λ c. search needs) (λ c κs. search needs) (λ c κs. search needs)
+    (λ c κs. search needs) (λ c κs. search needs) returns-2)

@@ -15,4 +15,7 @@ unfolding linkFits _and_
 returns-2 c = rw (← c .before .before .before .before .link-byte .ensures, ← c .before .before .before .link-byte2 .ensures, ← c .link-byte3 .ensures, ← c .before .before .before .before .before .byte-at .ensures, ← c .before .before .ends-good .ensures, not-false (c .before .before .ends-good .result) (c .before .if1 .left))
 
 pub link-fits-spec : {M : Type 1} → statement M
-link-fits-spec = tie.close (tie.spec (λ c κs. search needs) (λ c κs. search needs) (λ c κs. search needs) (λ c κs. search needs) returns (λ c κs. search needs) returns-2)
+link-fits-spec =
+    tie.close
+    (tie.spec (λ c κs. search needs) (λ c κs. search needs) (λ c κs. search needs) (λ c κs. search needs) returns (λ c κs. search needs)
+    returns-2)

@@ -2,7 +2,6 @@
 use borrow.Author.Tests.{eq-eqb, ne-eqb}
 use Rattle.model.specs.Logic.{_or_}
 use Rattle.model.specs.Table.{parentGood}
-use borrow.Author.Needs.{needs}
 use Rattle.table.proofs.parent_good.Statement.{statement}
 use Rattle.table.proofs.parent_good.Tie as tie
 

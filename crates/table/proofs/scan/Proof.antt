@@ -1,9 +1,8 @@
 -- `table::scan` meets its contract. The invariant: the entries passed are good. Assumes nothing.
-use mathlib.Core.Path.{_≡_, refl, sym, _∙_}
+use mathlib.Core.Path.{sym, _∙_}
 use Prim.Native.Nat.{_+_, _-_}
 use native.Mathlib.Omega.{arith}
 use borrow.Author.Tests.{not-true, not-false}
-use Rattle.model.specs.Table.{entriesAnswer}
 use Rattle.table.proofs.Scanning.{Passed, pass-device, pass-link, good-link, misfit, descends, stop-device, stop-link, stop-end}
 use borrow.Author.Needs.{needs}
 use Rattle.table.proofs.scan.Statement.{statement}
@@ -49,4 +48,8 @@ returns-4 : tie.Need-returns-4 Inv-entries μ-entries
 returns-4 c = stop-link (c .before .before .before .before .before .before .entries .inv) (c .before .before .before .before .before .if1 .left) (c .before .before .before .before .if3 .left) (descends _ _ (sym (c .before .before .before .link-fits .ensures) ∙ not-false (c .before .before .before .link-fits .result) (c .before .before .if4 .left)) (sym (c .before .link-ascends .ensures) ∙ not-true (c .before .link-ascends .result) (c .if5 .taken)))
 
 pub scan-spec : {M : Type 1} → statement M
-scan-spec = tie.close (tie.spec Inv-entries μ-entries (λ c κs. search needs) (λ c κs. search needs) (λ c. search needs) entries-holds (λ c κs. search needs) add-p entries-less entries-again (λ c κs. search needs) (λ c κs. search needs) add-i entries-less-2 entries-again-2 returns returns-2 returns-3 returns-4)
+scan-spec =
+    tie.close
+    (tie.spec Inv-entries μ-entries (λ c κs. search needs) (λ c κs. search needs) (λ c. search needs) entries-holds (λ c κs. search needs) add-p
+    entries-less entries-again (λ c κs. search needs) (λ c κs. search needs) add-i entries-less-2 entries-again-2 returns returns-2 returns-3
+    returns-4)

@@ -1,6 +1,6 @@
 -- `test_words::bytes_in` is safe and ends: it counts the words. Assumes nothing.
 use mathlib.Core.Path.{_≡_}
-use Prim.Native.Nat.{_≤_, _-_}
+use Prim.Native.Nat.{_-_}
 use lib.ListN.{length}
 use borrow.Author.Needs.{needs}
 use Rattle.test_words.proofs.bytes_in.Statement.{statement}

@@ -1,7 +1,6 @@
 -- `test_words::copy` is safe and ends: it passes each byte of the group once. Assumes nothing.
 use mathlib.Core.Path.{_≡_}
-use Prim.Native.Nat.{_≤_, _-_, _/_}
-use native.Mathlib.Omega.{arith}
+use Prim.Native.Nat.{_-_, _/_}
 use lib.ListN.{length}
 use borrow.Author.Needs.{needs}
 use Rattle.test_words.proofs.copy.Statement.{statement}

@@ -1,5 +1,5 @@
 -- `test_words::member` meets its contract. Assumes nothing.
-use Prim.Native.Nat.{_*_, _%_, _≤_}
+use Prim.Native.Nat.{_%_}
 use native.Mathlib.Omega.{arith}
 use borrow.Author.Needs.{needs}
 use Rattle.test_words.proofs.Reading.{small}
