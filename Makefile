@@ -4,6 +4,8 @@
 # make sample    the definitions against the second implementation; SEED and COUNT choose the cases
 # make compare   the proved code against the second implementation; SEED, TABLES, BENCHES, RECORDS and FEEDS choose the cases
 # make bench     the time of both over one log
+SHELL := /bin/bash
+.SHELLFLAGS := -o pipefail -c
 SEED ?= 1
 COUNT ?= 100
 TABLES ?= 100000
@@ -29,10 +31,9 @@ run: replay
 # is proved, and a crate that has not changed is not proved again.
 replay:
 	@echo "step 1 of 3: proving the keeper and the program, crate by crate (some three minutes on two cores)"
-	@rt check keeper replay_report > target-replay.log 2>&1 & pid=$$!; tail -f -s 1 --pid=$$pid target-replay.log 2>/dev/null | grep --line-buffered '^rt:' ; \
-	wait $$pid || { cat target-replay.log; rm -f target-replay.log; exit 1; }; rm -f target-replay.log
+	@rt check keeper replay_report 2>&1 | grep --line-buffered -E '^rt:|error:'
 	@echo "step 2 of 3: building the proved library"
-	@rt staticlib replay_files > target-replay.log 2>&1 || { cat target-replay.log; rm -f target-replay.log; exit 1; }; rm -f target-replay.log
+	@rt staticlib replay_files 2>&1 | grep --line-buffered -E '^rt:|error:'
 	@echo "step 3 of 3: building the program"
 	@cd host && cargo build --release --offline --quiet
 

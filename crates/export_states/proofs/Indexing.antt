@@ -15,7 +15,7 @@ use Rattle.counts.specs.Shifts.{Turned}
 use Rattle.request_answer.specs.declared.Reply as declared
 use Rattle.request_answer.specs.Promises.{replyOf}
 use Rattle.record_step.specs.Records.{Stepped}
-use Rattle.export_states.specs.Answers.{packed, WakeSetIs, LowestIs, StatusSet, StepIs}
+use Rattle.export_states.specs.Exported.{packed, WakeSetIs, LowestIs, StatusSet, StepIs}
 
 -- what `links::index` promises
 abbrev IndexOf : Wiring → List ℕ → Type 0

@@ -4,7 +4,7 @@ ghost use Rattle.memory.specs.Layout.{BYTES, WORDS, stateIn};
 ghost use Rattle.request_answer.specs.Promises.{replyOf};
 ghost use Rattle.wakeset.specs.Marks.{Above};
 ghost use Rattle.model.specs.SoundTest.{soundTest};
-ghost use Rattle.export_states.specs.Answers.{packed, WakeSetIs, LowestIs, StatusSet, StepIs};
+ghost use Rattle.export_states.specs.Exported.{packed, WakeSetIs, LowestIs, StatusSet, StepIs};
 
 mod cells;
 

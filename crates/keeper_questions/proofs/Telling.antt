@@ -20,7 +20,7 @@ use Rattle.model.specs.Questions.{Told, told}
 use Rattle.keeper_questions.specs.declared.Check.{Check}
 use Rattle.keeper_questions.specs.declared.Check.the-variants.{Unsound, Unknown, Passed}
 use Rattle.keeper_questions.proofs.Check.{the-type}
-use Rattle.keeper_questions.specs.Answers.{toldBy, Checked}
+use Rattle.keeper_questions.specs.Told.{toldBy, Checked}
 
 -- p is below n: n is not at most p
 pub below : (p n : ℕ) → ltb p n ≡ not (leb n p)

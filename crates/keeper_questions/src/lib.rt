@@ -7,7 +7,7 @@ ghost use Rattle.model.specs.Logic.{_or_, bit};
 ghost use Rattle.model.specs.State.{SUSPENDING};
 ghost use Rattle.model.specs.Questions.{tellStatus, tellHolds, tellUsage, tellChildren, tellWake, tellAbove};
 ghost use Rattle.keeper_bench.specs.Translate.{stateOf};
-ghost use Rattle.keeper_questions.specs.Answers.{statusOf, toldBy, Checked, statusTold, numberTold, memberTold};
+ghost use Rattle.keeper_questions.specs.Told.{statusOf, toldBy, Checked, statusTold, numberTold, memberTold};
 use keeper_bench::Bench;
 use memory::children;
 use memory::devices;

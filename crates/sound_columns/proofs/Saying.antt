@@ -7,7 +7,7 @@ use Rattle.model.specs.Logic.{all, _and_}
 use Rattle.model.specs.State.{State}
 use Rattle.model.proofs.Loops.{all-next, all-done}
 use Rattle.memory.specs.Layout.{stateIn}
-use Rattle.sound_columns.specs.Answers.{Says}
+use Rattle.sound_columns.specs.Sayings.{Says}
 
 module _ (one : State → ℕ → Bool) {bytes : List ℕ} where
   pub says-none : Says (λ s. all (one s) 0) bytes true

@@ -10,7 +10,7 @@ ghost use Rattle.model.specs.SoundTest.{columnTest, sameTest, parentSupplies, l
 ghost use Rattle.memory.specs.Layout.{byteCol, linkCol, wordCol, stateIn};
 ghost use Rattle.sound_columns.specs.Parts.{lowRows, childRests, linkRests, childBit, liveBit};
 ghost use Rattle.sound_columns.specs.Parts.{parentFits, endsFit, ascendsIn, wiringTest, devicesTest, kept};
-ghost use Rattle.sound_columns.specs.Answers.{Says, SaysOf, ChildrenCounted, LinksCounted};
+ghost use Rattle.sound_columns.specs.Sayings.{Says, SaysOf, ChildrenCounted, LinksCounted};
 use basics::both;
 use basics::row;
 use memory::BYTES;

@@ -23,7 +23,7 @@ use Rattle.model.proofs.Logic.{tests, and-iff, lt-iff}
 use Rattle.memory.specs.Layout.{stateIn}
 use Rattle.links.specs.Firsts.{firstLink, Listed}
 use Rattle.links.proofs.Order.{link-of, of-link, first-at, next-at, next-fits}
-use Rattle.wakeset.specs.Marks.{onParent, onSupplier, sleepingParent, sleepingSupplier, fallsFrom, FromLinks, Joined, Ready, Lowered, Marks}
+use Rattle.wakeset.specs.Marks.{onParent, onSupplier, sleepingParent, sleepingSupplier, fallsFrom, FromLinks, Joined, Markable, Lowered, Marks}
 
 -- ---- the set of a device, from its first step
 front : {w : Wiring} {status : List ℕ} {p r q : ℕ} → Sleeping status p → Needs w p r → r < p → Falls w status r q → Falls w status p q
@@ -168,7 +168,7 @@ joined-set ms p l =
     }
 
 -- marks stay ready
-ready-joined : {s : State} {first : List ℕ} {P : ℕ → Type 0} {a b : List Bool} → Shut s P → length b ≡ length a → Joined P a b → Ready s first a → Ready s first b
+ready-joined : {s : State} {first : List ℕ} {P : ℕ → Type 0} {a b : List Bool} → Shut s P → length b ≡ length a → Joined P a b → Markable s first a → Markable s first b
 ready-joined shut long j r =
     record {
       listed = r .listed;
@@ -177,7 +177,7 @@ ready-joined shut long j r =
     }
 
 -- a marked device has all of its set marked
-pub closed-has : {s : State} {first : List ℕ} {ms : List Bool} {p q : ℕ} → Ready s first ms → On ms p → fallsFrom p s q → On ms q
+pub closed-has : {s : State} {first : List ℕ} {ms : List Bool} {p q : ℕ} → Markable s first ms → On ms p → fallsFrom p s q → On ms q
 closed-has r h (here s) = h
 closed-has r h (down-to {p = p} {q = q} i d l s) = r .closed p q (closed-has r h i) d l s
 
@@ -231,7 +231,7 @@ module _ (bytes : List ℕ) (p k : ℕ) {r : ℕ} (e : (words : List ℕ) → r 
 module _ {bytes first : List ℕ} {p : ℕ} where
   -- nothing new
   pub marks-same : {P : State → ℕ → Type 0} {ms : List Bool} {low : ℕ} →
-      ((words : List ℕ) → Ready (stateIn bytes words) first ms → (q : ℕ) → P (stateIn bytes words) q → On ms q) → Marks P bytes first p ms ms low low
+      ((words : List ℕ) → Markable (stateIn bytes words) first ms → (q : ℕ) → P (stateIn bytes words) q → On ms q) → Marks P bytes first p ms ms low low
   marks-same h =
       record {
         long = refl;

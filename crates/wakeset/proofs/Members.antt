@@ -21,7 +21,7 @@ use Rattle.model.proofs.WakeSet.{none-on, marks-long, falls-iff, falls-within, 
 use Rattle.memory.specs.Layout.{stateIn}
 use Rattle.links.specs.Firsts.{Listed}
 use Rattle.wakeset.proofs.Scans.{off}
-use Rattle.wakeset.specs.Marks.{fallsFrom, Joined, Ready, Marks, IsWakeSet, IsLowest, HeardFrom, Reaches}
+use Rattle.wakeset.specs.Marks.{fallsFrom, Joined, Markable, Marks, IsWakeSet, IsLowest, HeardFrom, Reaches}
 
 alike : (a b : Bool) → (a ≡ true → b ≡ true) → (b ≡ true → a ≡ true) → a ≡ b
 alike true b f g = sym (f refl)
@@ -49,7 +49,7 @@ wake-marks {bytes} {first} {t} m =
       is = λ words h l. marks-are (stateIn bytes words) t _ (h .order) l (m .long ∙ length-replicate ROWS false) (m .is words (unmarked (stateIn bytes words) h));
     }
   where
-    unmarked : (s : State) → Listed (s .wiring) first → Ready s first (replicate ROWS false)
+    unmarked : (s : State) → Listed (s .wiring) first → Markable s first (replicate ROWS false)
     unmarked s h = record { listed = h; long = length-replicate ROWS false; closed = λ p q o. absurd (none-on ROWS p o) }
 
 -- from t down, the lowest number is the first mark below t, or t

@@ -58,7 +58,7 @@ pub record Joined (P : ℕ → Type 0) (ms₀ ms : List Bool) : Type 0 where
   pub only : (q : ℕ) → On ms q → On ms₀ q ⊎ P q
 
 -- what marking needs: the index of the links, a mark for each row, and with each marked device the lower sleeping ones that it rests on
-pub record Ready (s : State) (first : List ℕ) (ms : List Bool) : Type 0 where
+pub record Markable (s : State) (first : List ℕ) (ms : List Bool) : Type 0 where
   pub listed : Listed (s .wiring) first
   pub long : length ms ≡ ROWS
   pub closed : (p q : ℕ) → On ms p → Needs (s .wiring) p q → q < p → Sleeping (s .devices .status) q → On ms q
@@ -80,7 +80,7 @@ pub record Marks (P : State → ℕ → Type 0) (bytes first : List ℕ) (p : �
   pub long : length ms ≡ length ms₀
   pub only : (words : List ℕ) (q : ℕ) → On ms q → On ms₀ q ⊎ Sleeper (stateIn bytes words) p q
   pub lowers : length ms₀ ≡ ROWS → Lowered ms₀ ms low₀ low
-  pub is : (words : List ℕ) → Ready (stateIn bytes words) first ms₀ → Joined (P (stateIn bytes words)) ms₀ ms
+  pub is : (words : List ℕ) → Markable (stateIn bytes words) first ms₀ → Joined (P (stateIn bytes words)) ms₀ ms
 
 -- ---- the wake set of t
 -- its marks; and, whatever the index has, every mark is of a sleeping device up to t

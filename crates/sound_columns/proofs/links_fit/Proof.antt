@@ -4,7 +4,7 @@ use native.Mathlib.Omega.{arith}
 use mathlib.Core.Path.{_∙_}
 use Rattle.model.specs.Logic.{all}
 use Rattle.sound_columns.specs.Parts.{endsFit}
-use Rattle.sound_columns.specs.Answers.{Says}
+use Rattle.sound_columns.specs.Sayings.{Says}
 use Rattle.sound_columns.proofs.Saying.{says-none, says-next, says-done}
 use borrow.Author.Needs.{needs}
 use Rattle.sound_columns.proofs.links_fit.Statement.{statement}

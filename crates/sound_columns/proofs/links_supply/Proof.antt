@@ -3,7 +3,7 @@ use Prim.Native.Nat.{_-_, _≤_}
 use native.Mathlib.Omega.{arith}
 use Rattle.model.specs.Logic.{all}
 use Rattle.model.specs.SoundTest.{linkSupplies}
-use Rattle.sound_columns.specs.Answers.{Says}
+use Rattle.sound_columns.specs.Sayings.{Says}
 use Rattle.sound_columns.proofs.Saying.{says-none, says-next, says-done}
 use borrow.Author.Needs.{needs}
 use Rattle.sound_columns.proofs.links_supply.Statement.{statement}
