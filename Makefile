@@ -31,9 +31,9 @@ run: replay
 # is proved, and a crate that has not changed is not proved again.
 replay:
 	@echo "step 1 of 3: proving the keeper and the program, crate by crate (some three minutes on two cores)"
-	@rt check keeper replay_report 2>&1 | grep --line-buffered -E '^rt:|error:'
+	@rt check keeper replay_report 2>&1 | grep --line-buffered -E '^rt:| error: '
 	@echo "step 2 of 3: building the proved library"
-	@rt staticlib replay_files 2>&1 | grep --line-buffered -E '^rt:|error:'
+	@rt staticlib replay_files 2>&1 | grep --line-buffered -E '^rt:| error: '
 	@echo "step 3 of 3: building the program"
 	@cd host && cargo build --release --offline --quiet
 
