@@ -205,7 +205,8 @@ fn result<'a>(
     p: u8,
     v: u16,
 ) -> Reply
-    ensures { λ r. ⌜ LeadsBy (λ s p. resultStep s p v) (now (first .entry)) (now (bytes .entry)) (now (words .entry)) p (now (bytes .exit)) (now (words .exit)) r ⌝ }
+    ensures { λ r. ⌜ LeadsBy (λ s p. resultStep s p v) (now (first .entry)) (now (bytes .entry)) (now (words .entry)) p
+        (now (bytes .exit)) (now (words .exit)) r ⌝ }
 {
     let waiting = open_callback(bytes);
     let Callback::Open(kind, asked, target) = waiting else {

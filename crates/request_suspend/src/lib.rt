@@ -129,7 +129,8 @@ pub fn idle_result<'a>(
     p: u8,
     v: u16,
 ) -> Reply
-    ensures { λ r. ⌜ LeadsBy (λ s p. idleResult s p v) (now (first .entry)) (now (bytes .entry)) (now (words .entry)) p (now (bytes .exit)) (now (words .exit)) r ⌝ }
+    ensures { λ r. ⌜ LeadsBy (λ s p. idleResult s p v) (now (first .entry)) (now (bytes .entry)) (now (words .entry)) p
+        (now (bytes .exit)) (now (words .exit)) r ⌝ }
 {
     set_callback(bytes, 0, 0, 0);
     if v != 0 {
@@ -166,7 +167,8 @@ pub fn suspend_result<'a>(
     p: u8,
     v: u16,
 ) -> Reply
-    ensures { λ r. ⌜ LeadsBy (λ s p. suspendResult s p v) (now (first .entry)) (now (bytes .entry)) (now (words .entry)) p (now (bytes .exit)) (now (words .exit)) r ⌝ }
+    ensures { λ r. ⌜ LeadsBy (λ s p. suspendResult s p v) (now (first .entry)) (now (bytes .entry)) (now (words .entry)) p
+        (now (bytes .exit)) (now (words .exit)) r ⌝ }
 {
     counts::set_status(bytes, words, first, p, settled(v));
     set_callback(bytes, 0, 0, 0);
