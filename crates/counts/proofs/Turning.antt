@@ -7,7 +7,7 @@ use native.Mathlib.Omega.{arith}
 use lib.ListN.{length, getD, set}
 use lib.Seq.{set-getD}
 use lib.Dec.{eqb}
-use borrow.Author.Tests.{lt-leb, eq-eqb}
+use borrow.Author.Tests.{lt-ltb, le-ltb, lt-leb, eq-eqb}
 use Rattle.model.specs.Limits.{LINKS, ROWS, NONE}
 use Rattle.model.specs.Logic.{if_then_else_, _and_}
 use Rattle.model.specs.Sound.{Ordered}
@@ -15,12 +15,14 @@ use Rattle.model.specs.Table.{Wiring}
 use Rattle.model.specs.State.{State, Devices, ACTIVE, powered, statusAt, linkedAt, withStatus}
 use Rattle.model.proofs.Basics.{by-if, none-rows, few-rows, few-devices}
 use Rattle.model.proofs.Counting.{same-children, same-linked}
-use Rattle.memory.specs.Ready.{Ready}
+use Rattle.memory.specs.Ready.{Ready, fixed}
+use Rattle.memory.specs.Layout.{stateIn}
 use Rattle.memory.specs.Cells.{withStatusCell, withLinkedColumn, withLinked}
 use Rattle.memory.proofs.Readiness.{status-row}
-use Rattle.counts.specs.Shifts.{next, nextUpTo, hasParent, runtimeOf, shiftChild, linkStep, shiftLink, linkSteps, shiftLinks, only, Follows}
-use Rattle.links.specs.Firsts.{firstLink}
-use Rattle.links.proofs.Order.{link-of, of-link, first-low, first-rises}
+use Rattle.counts.specs.Shifts.{next, nextUpTo, hasParent, runtimeOf, shiftChild, linkStep, shiftLink, linkSteps, shiftLinks, shiftLinksBy, turnedBy, Turned, only, Follows}
+use Rattle.links.specs.Firsts.{firstLink, Indexed}
+use Rattle.links.proofs.Order.{link-of, of-link, first-low, first-rises, listed, index-first, index-next}
+use Rattle.links.proofs.Order as order
 use Rattle.counts.proofs.Shifting.{not-of, follow-one, follow-off, under, under-first, under-more, under-rest, children-follow, linked-follow, beq-same, beq-other}
 
 -- ---- one link
@@ -42,6 +44,16 @@ link-shifted s up i e f g =
 pub links-none : (s : State) (up : Bool) (a : ℕ) → shiftLinks s up a (a - a) ≡ s
 unfolding shiftLinks linkSteps
 links-none s up a = let e : a - a ≡ 0 = omega arith in rw e
+
+-- an index that leads past the links, and one that does not
+module _ (first : List ℕ) (s : State) (p : ℕ) (up : Bool) where
+  pub links-past : LINKS < getD first (p + 1) 0 → s ≡ shiftLinksBy first s p up
+  unfolding shiftLinksBy if_then_else_
+  links-past l = rw (lt-ltb LINKS (getD first (p + 1) 0) l)
+
+  pub links-within : getD first (p + 1) 0 ≤ LINKS → shiftLinks s up (getD first p 0) (getD first (p + 1) 0 - getD first p 0) ≡ shiftLinksBy first s p up
+  unfolding shiftLinksBy if_then_else_
+  links-within l = rw (le-ltb LINKS (getD first (p + 1) 0) l)
 
 pub links-more : (s : State) (up : Bool) (a i : ℕ) → a ≤ i → shiftLink (shiftLinks s up a (i - a)) up i ≡ shiftLinks s up a (i + 1 - a)
 unfolding shiftLinks shiftLink linkSteps
@@ -134,3 +146,45 @@ module _ (s : State) (p v : ℕ) (h : Ready s) (row : p < length (s .devices .st
         by-if (λ (x : State). shiftLinks x (powered v) from many ≡ withStatus s p v) (eqb (getD key p 0) NONE) _ _
         (λ y. both _ (follow-off _ _ key (w .n) p (s .devices .children) (rw y)))
         (λ n. both _ (follow-one _ _ key (w .n) p (s .devices .children) _ l (none-rows (h .rules .parentRows .used p l)) (rw n) (λ g. next-fits 255 (powered v) _ (omega arith))))
+
+-- ---- in any state, with any index
+module _ (first : List ℕ) (s : State) (p v : ℕ) where
+  pub any-same : Bool·beq (powered (statusAt s p)) (powered v) ≡ true → withStatusCell s p v ≡ turnedBy first s p v
+  unfolding turnedBy if_then_else_
+  any-same e = rw e
+
+  pub any-other : Bool·beq (powered (statusAt s p)) (powered v) ≡ false
+      → shiftLinksBy first (shiftChild (withStatusCell s p v) p (powered v)) p (powered v) ≡ turnedBy first s p v
+  unfolding turnedBy if_then_else_
+  any-other e = rw e
+
+  -- with the index of a ready state that brings the counts into line
+  pub turned-indexed : Indexed s first → p < s .wiring .n → Bool·beq (powered (statusAt s p)) (powered v) ≡ false → turnedBy first s p v ≡ withStatus s p v
+  turned-indexed h l e =
+      let r = h .ready in
+      let from = index-first (listed h) p l in
+      let to = index-next (listed h) p l in
+      let t = shiftChild (withStatusCell s p v) p (powered v) in
+      sym (any-other e) ∙ sym (links-within first t p (powered v) (rw to (order.next-fits (listed h) p)))
+      ∙ rw (from, to) (turned-other s p v r (row-of r p l) l e)
+
+  -- nothing fixed changes
+  abbrev Stays : State → Type 0
+  Stays t = fixed t ≡ fixed s
+
+  child-stays : (up : Bool) → Stays (shiftChild (withStatusCell s p v) p up)
+  unfolding shiftChild
+  child-stays up = by-if Stays _ _ _ (λ e. refl) (λ e. refl)
+
+  links-stay : (t : State) (up : Bool) → fixed (shiftLinksBy first t p up) ≡ fixed t
+  unfolding shiftLinksBy shiftLinks
+  links-stay t up = by-if (λ (x : State). fixed x ≡ fixed t) _ _ _ (λ e. refl) (λ e. refl)
+
+  pub turned-stays : Stays (turnedBy first s p v)
+  unfolding turnedBy
+  turned-stays = by-if Stays _ _ _ (λ e. refl) (λ e. links-stay _ _ ∙ child-stays _)
+
+-- so a change of status leaves what is fixed, in any memory
+pub turned-on : {p v : ℕ} {first bytes₀ words₀ bytes words : List ℕ} → Turned p v first bytes₀ words₀ bytes words
+    → fixed (stateIn bytes words) ≡ fixed (stateIn bytes₀ words₀)
+turned-on t = ap fixed (t .any) ∙ turned-stays _ _ _ _

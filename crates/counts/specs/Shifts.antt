@@ -1,21 +1,17 @@
 -- How the counts follow a change of status, step by step. Assumes nothing.
 use mathlib.Core.Path.{_≡_}
-use mathlib.Core.Bool.{Bool, true, false, not}
+use mathlib.Core.Bool.{Bool, true, false, not, Bool·beq}
 use mathlib.Core.List.{List}
-use Prim.Native.Nat.{ℕ, zero, suc, _+_, _-_, _<_, _≤_, _%_}
+use Prim.Native.Nat.{ℕ, zero, suc, _+_, _-_, _<_, _%_}
 use lib.ListN.{getD, set}
-use lib.Dec.{eqb, leb}
+use lib.Dec.{eqb, ltb, leb}
 use Rattle.model.specs.Limits.{LINKS, ROWS, NONE}
 use Rattle.model.specs.Logic.{if_then_else_, _and_, tally, column}
 use Rattle.model.specs.Table.{Wiring}
-use Rattle.model.specs.State.{State, childrenAt, withStatus}
+use Rattle.model.specs.State.{State, statusAt, childrenAt, powered, withStatus}
 use Rattle.memory.specs.Layout.{stateIn}
 use Rattle.links.specs.Firsts.{Indexed}
-use Rattle.memory.specs.Cells.{withChildren, withLinkedColumn}
-
--- the status of p is v, and counts that were in line are so again
-pub record Turned (p v : ℕ) (first bytes₀ words₀ bytes words : List ℕ) : Type 0 where
-  pub is : Indexed (stateIn bytes₀ words₀) first → p < stateIn bytes₀ words₀ .wiring .n → stateIn bytes words ≡ withStatus (stateIn bytes₀ words₀) p v
+use Rattle.memory.specs.Cells.{withStatusCell, withChildren, withLinkedColumn}
 
 -- link k is a runtime link of the consumer p
 unfoldable pub runtimeOf : List ℕ → List ℕ → ℕ → ℕ → Bool
@@ -44,9 +40,23 @@ linkSteps w up a (suc k) col = linkStep w up (a + k) (linkSteps w up a k col)
 unfoldable pub shiftLinks : State → Bool → ℕ → ℕ → State
 shiftLinks s up a k = withLinkedColumn s (linkSteps (s .wiring) up a k (s .devices .linked))
 
--- the links from where the index has p's first to where it has the next device's
-pub record LinksShifted (first : List ℕ) (p : ℕ) (up : Bool) (bytes words₀ words : List ℕ) : Type 0 where
-  pub is : (a b : ℕ) → getD first p 0 ≡ a → getD first (p + 1) 0 ≡ b → b ≤ LINKS → stateIn bytes words ≡ shiftLinks (stateIn bytes words₀) up a (b - a)
+-- the links from where the index has p's first to where it has the next device's; an index that leads past the links is none of theirs
+unfoldable pub shiftLinksBy : List ℕ → State → ℕ → Bool → State
+shiftLinksBy first s p up =
+    let a = getD first p 0 in
+    let b = getD first (p + 1) 0 in
+    if ltb LINKS b then s else shiftLinks s up a (b - a)
+
+-- the status cell of p, and the counts by the index, whatever they were
+unfoldable pub turnedBy : List ℕ → State → ℕ → ℕ → State
+turnedBy first s p v =
+    let t = withStatusCell s p v in
+    if Bool·beq (powered (statusAt s p)) (powered v) then t else shiftLinksBy first (shiftChild t p (powered v)) p (powered v)
+
+-- the status of p becomes v: in a ready state with its index the counts are in line again; in any other the cells change as the code does
+pub record Turned (p v : ℕ) (first bytes₀ words₀ bytes words : List ℕ) : Type 0 where
+  pub is : Indexed (stateIn bytes₀ words₀) first → p < stateIn bytes₀ words₀ .wiring .n → stateIn bytes words ≡ withStatus (stateIn bytes₀ words₀) p v
+  pub any : stateIn bytes words ≡ turnedBy first (stateIn bytes₀ words₀) p v
 
 -- ---- what it amounts to
 -- a count one more, or one less

@@ -5,7 +5,7 @@ ghost use Prim.Native.Nat.{ℕ};
 ghost use Rattle.model.specs.Logic.{if_then_else_};
 ghost use Rattle.model.specs.State.{powered};
 ghost use Rattle.memory.specs.Layout.{Becomes};
-ghost use Rattle.counts.specs.Shifts.{nextUpTo, shiftChild, shiftLink, LinksShifted, Turned};
+ghost use Rattle.counts.specs.Shifts.{nextUpTo, shiftChild, shiftLink, shiftLinksBy, Turned};
 use basics::row;
 use basics::wide;
 use links::FIRSTS;
@@ -100,7 +100,8 @@ fn shift_links<'a>(
     p: u8,
     up: bool,
 )
-    ensures { λ _. ⌜ LinksShifted (now (first .entry)) p up (now (bytes .entry)) (now (words .entry)) (now (words .exit)) ⌝ }
+    ensures { λ _. ⌜ Becomes (λ s. shiftLinksBy (now (first .entry)) s p up) (now (bytes .entry)) (now (words .entry))
+        (now (bytes .entry)) (now (words .exit)) ⌝ }
 {
     let at = row(p);
     let mut i = wide(first[at]);

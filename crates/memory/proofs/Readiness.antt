@@ -3,15 +3,13 @@ use mathlib.Core.Path.{_≡_, refl, _∙_, ap}
 use mathlib.Core.List.{List}
 use Prim.Native.Nat.{ℕ, _≤_, _<_}
 use native.Mathlib.Omega.{arith}
-use native.Mathlib.Decide.{ℕ-discrete, decLt}
 use lib.ListN.{length, length-take, length-drop}
-use lib.Seq.{getD-set-same, getD-set-other, set-out}
-use Rattle.model.specs.Limits.{ROWS, MAXHOLDS}
+use Rattle.model.specs.Limits.{ROWS}
 use Rattle.model.specs.State.{State, SUSPENDING, withHolds, withStatus, withCallback, closed}
 use Rattle.model.proofs.Basics.{few-rows, column-set}
 use Rattle.model.specs.Sound.{Sound, CallbackRules, noneOpen, suspendOpen, resumeOpen, idleOpen}
-use Rattle.memory.specs.Layout.{area, byteTail, BYTES, stateIn}
-use Rattle.memory.specs.Ready.{Ready}
+use Rattle.memory.specs.Layout.{area, byteTail, BYTES, stateIn, WholeBytesBecome}
+use Rattle.memory.specs.Ready.{Full, Ready, Fixed, fixed}
 
 pub ready : {s : State} → Sound s → Ready s
 ready {s} h =
@@ -20,7 +18,6 @@ ready {s} h =
       rules = k .table;
       statuses = k .statuses;
       carried = h .carried .long;
-      holds = λ p. elim (decLt p (s .wiring .n)) [ yes l ↦ k .holds .used p l | no g ↦ let u = k .holds .unused p (omega arith) in omega arith ];
       children = k .children;
       target = target (k .table .some) (h .callback);
       linked = k .linked;
@@ -38,41 +35,25 @@ status-row h p l = let e = h .statuses .long in omega arith
 
 -- the cells of the numbers are there, also after a change of status
 module _ (bytes words : List ℕ) where
-  long-rows : length (stateIn bytes words .carry .bytes) ≡ 3 → BYTES ≤ length bytes
+  pub full-long : Full (stateIn bytes words) → BYTES ≤ length bytes
   unfolding stateIn byteTail area BYTES
-  long-rows h = let e = rw (length-take, length-drop, length-take, length-drop) at h in omega arith
+  full-long h = let e = rw (length-take, length-drop, length-take, length-drop) at h in omega arith
 
   pub long : Ready (stateIn bytes words) → BYTES ≤ length bytes
-  long h = long-rows (h .carried)
+  long h = full-long (h .carried)
 
   pub long-turned : (s : State) (p v : ℕ) → Ready s → stateIn bytes words ≡ withStatus s p v → BYTES ≤ length bytes
-  long-turned s p v h e = long-rows (ap (λ (x : State). length (x .carry .bytes)) e ∙ h .carried)
+  long-turned s p v h e = full-long (ap (λ (x : State). length (x .carry .bytes)) e ∙ h .carried)
 
--- user holds in their range
-pub ready-holds : {s : State} (p v : ℕ) → v ≤ MAXHOLDS → Ready s → Ready (withHolds s p v)
-ready-holds {s} p v l h =
-    record {
-      rules = h .rules;
-      statuses = h .statuses;
-      carried = h .carried;
-      holds =
-          λ q.
-          elim (ℕ-discrete q p) [
-            | yes y ↦ elim (decLt p (length (s .devices .holds))) [
-              | yes m ↦ rw (y, getD-set-same (s .devices .holds) p v 0 m) l
-              | no g ↦ rw (set-out (s .devices .holds) p v (omega arith)) (h .holds q)
-            ]
-            | no n ↦ rw (getD-set-other (s .devices .holds) p q v 0 n) (h .holds q)
-          ];
-      children = h .children;
-      target = h .target;
-      linked = h .linked;
-    }
+-- user holds are any
+pub ready-holds : {s : State} (p v : ℕ) → Ready s → Ready (withHolds s p v)
+ready-holds p v h =
+    record { rules = h .rules; statuses = h .statuses; carried = h .carried; children = h .children; target = h .target; linked = h .linked }
 
 -- any callback with a device for a target
 pub ready-callback : {s : State} (kind asked target : ℕ) → target < s .wiring .n → Ready s → Ready (withCallback s kind asked target)
 ready-callback kind asked target l h =
-    record { rules = h .rules; statuses = h .statuses; carried = h .carried; holds = h .holds; children = h .children; target = l; linked = h .linked }
+    record { rules = h .rules; statuses = h .statuses; carried = h .carried; children = h .children; target = l; linked = h .linked }
 
 -- a change of status brings the counts into line
 pub ready-status : {s : State} (p v : ℕ) → p < s .wiring .n → v ≤ SUSPENDING → Ready s → Ready (withStatus s p v)
@@ -81,7 +62,7 @@ ready-status {s} p v l m h =
       rules = h .rules;
       statuses = column-set (h .statuses) (few-rows (h .rules .order .devices)) p v l m;
       carried = h .carried;
-      holds = h .holds;
+     
       children = refl;
       target = h .target;
       linked = refl;
@@ -90,3 +71,20 @@ ready-status {s} p v l m h =
 -- no callback open
 pub ready-closed : {s : State} → Ready s → Ready (closed s)
 ready-closed h = ready-callback 0 0 0 (h .rules .some) h
+
+-- ---- in any state where all cells are there
+-- what is fixed stays, so the cells are there still
+pub stays-full : (bytes₀ words₀ bytes words : List ℕ) → fixed (stateIn bytes words) ≡ fixed (stateIn bytes₀ words₀)
+    → Full (stateIn bytes₀ words₀) → Full (stateIn bytes words)
+stays-full bytes₀ words₀ bytes words e h = ap (λ (f : Fixed). length (f .carry .bytes)) e ∙ h
+
+-- a callback opened or closed leaves what is fixed; so it does after what left it
+pub callback-stays : (bytes₀ bytes words : List ℕ) (kind asked target : ℕ) → WholeBytesBecome (λ s. withCallback s kind asked target) bytes₀ bytes
+    → Full (stateIn bytes₀ words) → fixed (stateIn bytes words) ≡ fixed (stateIn bytes₀ words)
+callback-stays bytes₀ bytes words kind asked target e h = ap fixed (e words (full-long bytes₀ words h))
+
+pub then-callback : (bytes₀ words₀ bytes₁ words₁ bytes : List ℕ) (kind asked target : ℕ)
+    → fixed (stateIn bytes₁ words₁) ≡ fixed (stateIn bytes₀ words₀) → WholeBytesBecome (λ s. withCallback s kind asked target) bytes₁ bytes
+    → Full (stateIn bytes₀ words₀) → fixed (stateIn bytes words₁) ≡ fixed (stateIn bytes₀ words₀)
+then-callback bytes₀ words₀ bytes₁ words₁ bytes kind asked target e f h =
+    callback-stays bytes₁ bytes words₁ kind asked target f (stays-full bytes₀ words₀ bytes₁ words₁ e h) ∙ e

@@ -3,8 +3,8 @@ use mathlib.Core.Path.{_≡_}
 use mathlib.Core.Bool.{false}
 use Prim.Native.Nat.{ℕ, _<_, _+_, _-_}
 use native.Mathlib.Omega.{arith}
-use lib.Dec.{eqb}
-use borrow.Author.Tests.{eqb-false}
+use lib.Dec.{leb}
+use borrow.Author.Tests.{eqb-false, leb-false}
 use Rattle.model.specs.Limits.{MAXHOLDS}
 use Rattle.model.specs.State.{State, holdsAt, withHolds}
 use Rattle.model.specs.Records.{Done}
@@ -26,8 +26,8 @@ module _ {s : State} (h : Sound s) (o : s .callback .kind ≡ 0) (p : ℕ) (l : 
   unfolding disable
   disable-good = by-if Good _ _ _ (λ e. h) (λ e. quiet _ (kept-depth s (h .kept) p _ l (let z = h .kept .depths .used p l in omega (arith, eqb-false))) (h .carried) (none-open (h .callback) o))
 
-  pub more-held : eqb (holdsAt s p) MAXHOLDS ≡ false → Sound (withHolds s p (holdsAt s p + 1))
-  more-held e = quiet _ (kept-holds s (h .kept) p _ l (let z = h .kept .holds .used p l in omega (arith, eqb-false))) (h .carried) (none-open (h .callback) o)
+  pub more-held : leb MAXHOLDS (holdsAt s p) ≡ false → Sound (withHolds s p (holdsAt s p + 1))
+  more-held e = quiet _ (kept-holds s (h .kept) p _ l (let z = leb-false MAXHOLDS (holdsAt s p) e in omega arith)) (h .carried) (none-open (h .callback) o)
 
   pub less-held : Sound (withHolds s p (holdsAt s p - 1))
   less-held = quiet _ (kept-holds s (h .kept) p _ l (let z = h .kept .holds .used p l in omega arith)) (h .carried) (none-open (h .callback) o)

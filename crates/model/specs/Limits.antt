@@ -1,5 +1,5 @@
--- The limits and the error codes of document 01. Proofs cite laws about the names DEVICES, LINKS and ROWS, never their numbers.
--- Assumes nothing.
+-- Numbers of document 01: its limits, its number for no parent, and the error codes that the keeper answers with. Beside them the rows of
+-- a column, which are ours, and how a negative number stands in 16 bits. Assumes nothing.
 use Prim.Native.Nat.{ℕ, _-_}
 
 -- "part count n, 1 to 64", "link count m, 0 to 128"

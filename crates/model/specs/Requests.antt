@@ -3,7 +3,7 @@
 use mathlib.Core.Bool.{Bool, not}
 use Prim.Native.Nat.{ℕ, _+_, _-_, _%_}
 use lib.ListN.{getD}
-use lib.Dec.{ltb, eqb}
+use lib.Dec.{ltb, leb, eqb}
 use Rattle.model.specs.Limits.{NONE, MAXHOLDS, MAXDEPTH, EAGAIN, EBUSY, EINVAL, EOVERFLOW, minus}
 use Rattle.model.specs.Logic.{if_then_else_, _and_, _or_, any}
 use Rattle.model.specs.State.{State, SUSPENDED, RESUMING, ACTIVE, SUSPENDING, statusAt, holdsAt, depthAt, errorAt, childrenAt, linkedAt, usage, countsChildren, withHolds, withDepth, withError, withStatus, withIgnore, withCallback}
@@ -89,13 +89,13 @@ disable s p =
 -- kind 3, get: the user holds rise by 1; at 32,767: -75 (house)
 unfoldable pub get : State → ℕ → Done
 get s p =
-    if eqb (holdsAt s p) MAXHOLDS then finished s p (minus EOVERFLOW)
+    if leb MAXHOLDS (holdsAt s p) then finished s p (minus EOVERFLOW)
     else finished (withHolds s p (holdsAt s p + 1)) p 0
 
 -- kind 4, get and wake: as 3, and unless that was -75 then as 9; the hold stays, whatever the wake is answered
 unfoldable pub getWake : State → ℕ → Done
 getWake s p =
-    if eqb (holdsAt s p) MAXHOLDS then finished s p (minus EOVERFLOW)
+    if leb MAXHOLDS (holdsAt s p) then finished s p (minus EOVERFLOW)
     else wake (withHolds s p (holdsAt s p + 1)) p
 
 -- kind 5, put: the user holds fall by 1; at 0: -75 (house)

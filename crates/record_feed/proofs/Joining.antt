@@ -1,13 +1,13 @@
 -- Bytes in their places: a byte of the joined bytes, the four bytes of a record, and replies in the buffer. Assumes nothing.
 use mathlib.Core.Path.{_≡_, refl, sym, _∙_, ap}
-use mathlib.Core.List.{List, [], _∷_, _++_, append-assoc}
+use mathlib.Core.List.{List, [], _∷_, _++_, append-assoc, append-nil}
 use Prim.Native.Nat.{ℕ, suc, _+_, _-_, _<_, _≤_}
 use native.Mathlib.Omega.{arith}
 use native.Mathlib.Nat.{add-zero}
 use lib.ListN.{length, getD, set, take, drop, length-append, length-drop, take-append-drop}
-use lib.Seq.{length-take-le, drop-cons, drop-drop, take-at, drop-at, getD-take, getD-append-add, sets-eq}
+use lib.Seq.{take-all, drop-length, length-take-le, drop-cons, drop-drop, take-at, drop-at, getD-take, getD-append-add, sets-eq}
 use Rattle.model.specs.Feed.{over}
-use Rattle.record_feed.specs.Pieces.{recordIn, overAt}
+use Rattle.record_feed.specs.Pieces.{overAt}
 
 -- ---- a byte of the joined bytes
 module _ (carried piece : List ℕ) (used : ℕ) (few : used ≤ length carried) where
@@ -22,15 +22,15 @@ module _ (carried piece : List ℕ) (used : ℕ) (few : used ≤ length carried)
       let n : length (take used carried) + k ≡ i = omega arith in
       sym (rw n at (getD-append-add (take used carried) piece k 0))
 
-  pub record-after : (i : ℕ) → used ≤ i → recordIn piece (i - used) ≡ recordIn (take used carried ++ piece) i
-  unfolding recordIn
-  record-after i h =
-      let k = i - used in
-      let at : (d : ℕ) → getD piece (k + d) 0 ≡ getD (take used carried ++ piece) (i + d) 0 = λ d. piece-at (i + d) (k + d) (omega arith) in
-      rw (piece-at i k (omega arith), at 1, at 2, at 3)
-
   pub joined-length : length (take used carried ++ piece) ≡ used + length piece
   joined-length = rw (length-append, length-take-le used carried few)
+
+  -- where the carried bytes end before place i, the bytes from there on are the piece's
+  pub rest-after : (i : ℕ) → used ≤ i → drop (i - used) piece ≡ drop i (take used carried ++ piece)
+  rest-after i h =
+      let e : used + (i - used) ≡ i = omega arith in
+      let front = drop-at (take used carried) piece used (length-take-le used carried few) in
+      ap (drop (i - used)) (sym front) ∙ rw e at (drop-drop (i - used) used (take used carried ++ piece))
 
 -- ---- the next four bytes
 pub next-four : (w : List ℕ) (i : ℕ) → i + 4 ≤ length w
@@ -92,3 +92,15 @@ over-front b out = let e : 0 + length b ≡ length b = omega arith in rw e
 pub over-none : (i : ℕ) (out : List ℕ) → overAt i [] out ≡ out
 unfolding overAt
 over-none i out = rw (add-zero i) (take-append-drop i out)
+
+-- ---- the part of a list from place i on, as a slice of it is lent and comes back
+pub part-lent : (i : ℕ) (w : List ℕ) → take (length w - i) (drop i w) ≡ drop i w
+part-lent i w = take-all (length w - i) (drop i w) (rw (length-drop i w) (omega arith))
+
+pub part-back : (i : ℕ) (out part : List ℕ) → i ≤ length out → take i out ++ (part ++ drop (length out - i) (drop i out)) ≡ take i out ++ part
+part-back i out part h = let e : i + (length out - i) ≡ length out = omega arith in rw (drop-drop (length out - i) i out, e, drop-length out, append-nil part)
+
+-- bytes in that part of the buffer
+pub over-part : (i : ℕ) (b out : List ℕ) → take i out ++ overAt 0 b (drop i out) ≡ overAt i b out
+unfolding overAt
+over-part i b out = let e : 0 + length b ≡ length b = omega arith in rw (e, drop-drop (length b) i out)

@@ -17,8 +17,8 @@ use Rattle.model.proofs.Running.{run-joined, replies-many}
 use Rattle.model.proofs.Pieces.{log-replies, log-joined}
 use Rattle.links.specs.Firsts.{Indexed}
 use Rattle.links.proofs.Keeping.{sound-indexed, record-index}
-use Rattle.record_feed.specs.Pieces.{recordIn, fourIn, restIn, overAt, Room, nothing, Between, Led, Reached, Turning}
-use Rattle.record_feed.proofs.Joining.{record-after, joined-length, next-four, over-length, over-more, over-none}
+use Rattle.record_feed.specs.Pieces.{recordIn, fourIn, restIn, overAt, nothing, Between, Led, Reached, Turning}
+use Rattle.record_feed.proofs.Joining.{next-four, over-length, over-more, over-none, over-part, part-lent, part-back}
 
 -- ---- the carried bytes, fed again where none wait
 held : (s : State) (bytes : List ℕ) (used : ℕ) → Carried (record { bytes = bytes; used = used })
@@ -91,42 +91,29 @@ pub reached-start : {first : List ℕ} {s : State} {w before : List ℕ} → Bet
 reached-start b = record { between = b; state = refl; buffer = refl }
 
 -- no record is answered yet
-pub turning-start : {first carried : List ℕ} {used : ℕ} {piece before : List ℕ} {s : State} → Room used piece before → used ≤ length carried
-    → Turning first carried used piece before ((used + length piece) / 4) 0 s s before
-turning-start room rows = record { room = room; rows = rows; many = refl; within = omega arith; long = refl; reached = reached-start }
+pub turning-start : {first w before : List ℕ} {s : State} → 4 * (length w / 4) ≤ length before
+    → Turning first w before (length w / 4) 0 s s before
+turning-start room = record { room = room; many = refl; within = omega arith; long = refl; reached = reached-start }
 
-module _ {first carried : List ℕ} {used : ℕ} {piece before : List ℕ} {count k : ℕ} {s₀ s : State} {out : List ℕ}
-    (t : Turning first carried used piece before count k s₀ s out) where
-  abbrev w : List ℕ
-  w = take used carried ++ piece
-
-  whole-record : k < count → 4 * k + 4 ≤ used + length piece
+module _ {first w before : List ℕ} {count k : ℕ} {s₀ s : State} {out : List ℕ} (t : Turning first w before count k s₀ s out) where
+  pub whole-record : k < count → 4 * k + 4 ≤ length w
   whole-record h = let e = t .many in omega arith
 
   pub reply-fits : k < count → 4 * k + 4 ≤ length out
-  reply-fits h = let e = t .many in let r = t .room .room in let l = t .long in omega arith
-
-  -- where the carried bytes are used up, record k stands in the piece
-  pub in-piece : k < count → used ≤ 4 * k → 4 * k - used + 4 ≤ length piece
-  in-piece h l = let n = whole-record h in omega arith
-
-  pub record-is : used ≤ 4 * k → recordIn piece (4 * k - used) ≡ recordIn w (4 * k)
-  record-is l = record-after carried piece used (t .rows) (4 * k) l
+  reply-fits h = let e = t .many in let r = t .room in let l = t .long in omega arith
 
   -- one record more
   pub turning-more : k < count → {s₁ : State} {r : Reply} {out₁ : List ℕ}
       → (Indexed s first → recordStep s (recordIn w (4 * k)) ≡ record { state = s₁; reply = r })
       → out₁ ≡ overAt (4 * k) (replyBytes r) out
-      → Turning first carried used piece before count (k + 1) s₀ s₁ out₁
+      → Turning first w before count (k + 1) s₀ s₁ out₁
   unfolding repliesIn
   turning-more h {s₁} {r} {out₁} f e =
-      let l = joined-length carried piece used (t .rows) in
       let n = whole-record h in
       let fits = reply-fits h in
       let next : 4 * (k + 1) ≡ 4 * k + 4 = omega arith in
       record {
         room = t .room;
-        rows = t .rows;
         many = t .many;
         within = omega arith;
         long = rw e (over-length out (4 * k) (replyBytes r) refl fits ∙ t .long);
@@ -146,7 +133,6 @@ module _ {first carried : List ℕ} {used : ℕ} {piece before : List ℕ} {coun
   pub turning-end : count ≤ k → Between first s₀ → Led first s₀ w before s out
   unfolding repliesIn
   turning-end h z =
-      let l = joined-length carried piece used (t .rows) in
       let m = t .many in
       let i = t .within in
       let a : k ≡ length w / 4 = omega arith in
@@ -155,7 +141,7 @@ module _ {first carried : List ℕ} {used : ℕ} {piece before : List ℕ} {coun
       let f = last-few s (g .between .none) w (4 * k) (omega arith) in
       record { between = g .between; state = rw (← b, ← a) (sym (rw f at (g .state))); buffer = sym (over-none (4 * k) out) ∙ rw f at (g .buffer) }
 
--- ---- the first record by itself
+-- ---- the first record by itself, then the others
 module _ {first : List ℕ} {s t : State} (w before : List ℕ) {out : List ℕ} (four : 4 ≤ length w) (room : 4 ≤ length before) (z : Between first s)
     (head : Led first s (fourIn w) before t out) where
   split : w ≡ fourIn w ++ drop 4 w
@@ -170,20 +156,41 @@ module _ {first : List ℕ} {s t : State} (w before : List ℕ) {out : List ℕ}
       let u : s .carry .used ≡ 0 = ap (λ c. c .used) (z .none) in
       log-replies (run s (fourIn w) .log) ∙ rw (n, u)
 
-  pub head-long : length out ≡ length before
+  head-long : length out ≡ length before
   head-long = rw (head .buffer) (over-length before 0 (repliesIn (run s (fourIn w) .log)) one-reply room)
 
   -- the rest leads where the whole leads
-  pub reached-head : Reached first s w before (4 * 1) t out
-  reached-head =
-      let j = run-joined s (fourIn w) (drop 4 w) in
+  same-state : run s w .state ≡ run t (drop 4 w) .state
+  same-state = subst (λ (x : List ℕ). run s x .state ≡ run t (drop 4 w) .state) (sym split) (rw stays at (run-joined s (fourIn w) (drop 4 w) .0))
+
+  -- and its replies stand after the first
+  same-replies : overAt 4 (repliesIn (run t (drop 4 w) .log)) out ≡ overAt 0 (repliesIn (run s w .log)) before
+  same-replies =
       let more = repliesIn (run t (drop 4 w) .log) in
-      let log : run s (fourIn w ++ drop 4 w) .log ≡ run s (fourIn w) .log ++ run t (drop 4 w) .log = rw stays at (j .1) in
+      let one = repliesIn (run s (fourIn w) .log) in
+      let log : run s (fourIn w ++ drop 4 w) .log ≡ run s (fourIn w) .log ++ run t (drop 4 w) .log = rw stays at (run-joined s (fourIn w) (drop 4 w) .1) in
+      rw (head .buffer) (over-more before 0 one one-reply room more)
+      ∙ subst (λ (x : List ℕ). overAt 0 (one ++ more) before ≡ overAt 0 (repliesIn (run s x .log)) before) (sym split) (rw (log, log-joined))
+
+  left-over : restIn (drop 4 w) (4 * (length (drop 4 w) / 4)) ≡ restIn w (4 * (length w / 4))
+  left-over =
+      let l = length-drop 4 w in
+      let i = 4 * (length (drop 4 w) / 4) in
+      let e : 4 + i ≡ 4 * (length w / 4) = omega arith in
+      let place : (d : ℕ) → 4 + (i + d) ≡ 4 * (length w / 4) + d = λ d. omega arith in
+      let at : (d : ℕ) → getD (drop 4 w) (i + d) 0 ≡ getD w (4 * (length w / 4) + d) 0 = λ d. getD-drop 4 w (i + d) 0 ∙ rw (place d) in
+      rw (getD-drop 4 w i 0, e, at 1, at 2)
+
+  -- the others lead on from t, their replies in the part of the buffer after the first, which is lent and comes back
+  pub led-joined : {u : State} {after : List ℕ} → Led first t (drop 4 w) (take (length out - 4) (drop 4 out)) u after
+      → Led first s w before u (take 4 out ++ (after ++ drop (length out - 4) (drop 4 out)))
+  led-joined {u} {after} rest =
+      let l = length-drop 4 w in
+      let e : length (drop 4 w) % 4 ≡ length w % 4 = omega arith in
+      let long = head-long in
+      let written = rw (part-lent 4 out) at (rest .buffer) in
       record {
-        between = head .between;
-        state = sym (subst (λ (x : List ℕ). run s x .state ≡ run t (drop 4 w) .state) (sym split) (rw stays at (j .0)));
-        buffer =
-            rw (head .buffer) (over-more before 0 (repliesIn (run s (fourIn w) .log)) one-reply room more)
-            ∙ subst (λ (x : List ℕ). overAt 0 (repliesIn (run s (fourIn w) .log) ++ more) before ≡ overAt 0 (repliesIn (run s x .log)) before) (sym split)
-            (rw (log, log-joined));
+        between = rest .between;
+        state = same-state ∙ rest .state ∙ rw (left-over, e);
+        buffer = part-back 4 out after (omega arith) ∙ rw written (over-part 4 (repliesIn (run t (drop 4 w) .log)) out ∙ same-replies);
       }

@@ -83,20 +83,13 @@ pub record Reached (first : List ℕ) (s₀ : State) (w before : List ℕ) (i : 
   pub state : run s (drop i w) .state ≡ run s₀ w .state
   pub buffer : overAt i (repliesIn (run s (drop i w) .log)) out ≡ overAt 0 (repliesIn (run s₀ w .log)) before
 
--- k of count records of the carried bytes and the piece are answered
-pub record Turning (first carried : List ℕ) (used : ℕ) (piece before : List ℕ) (count k : ℕ) (s₀ s : State) (out : List ℕ) : Type 0 where
-  pub room : Room used piece before
-  pub rows : used ≤ length carried
-  pub many : count ≡ (used + length piece) / 4
+-- k of count records of the bytes w are answered
+pub record Turning (first w before : List ℕ) (count k : ℕ) (s₀ s : State) (out : List ℕ) : Type 0 where
+  pub room : 4 * (length w / 4) ≤ length before
+  pub many : count ≡ length w / 4
   pub within : k ≤ count
   pub long : length out ≡ length before
-  pub reached : Between first s₀ → Reached first s₀ (take used carried ++ piece) before (4 * k) s out
-
--- the records of a source after so many bytes, but for the one that those begin, which is answered: from there to the end
-pub record RanOn (first : List ℕ) (used : ℕ) (bytes₀ words₀ source out₀ bytes words out : List ℕ) : Type 0 where
-  pub is : (carried before : List ℕ) (s : State)
-      → Turning first carried used source before ((used + length source) / 4) ((used + 3) / 4) s (stateIn bytes₀ words₀) out₀
-      → Between first s → Led first s (joined carried used source) before (stateIn bytes words) out
+  pub reached : Between first s₀ → Reached first s₀ w before (4 * k) s out
 
 -- the same between two memories
 pub record Ran (first bytes₀ words₀ before w bytes words after : List ℕ) : Type 0 where

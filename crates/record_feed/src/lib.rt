@@ -6,14 +6,14 @@ ghost use Rattle.model.specs.Limits.{MAXPIECE};
 ghost use Rattle.model.specs.Records.{replyBytes};
 ghost use Rattle.request_answer.specs.Promises.{replyOf};
 ghost use Rattle.record_step.specs.Records.{recOf};
-ghost use Rattle.record_feed.specs.Pieces.{joined, At, recordIn, fourIn, restIn, overAt, Room, RanOn, Ran, Took, FedIn};
+ghost use Rattle.record_feed.specs.Pieces.{numberOf, repliesOf, joined, At, recordIn, fourIn, restIn, overAt, Room, Ran, Took, FedIn};
+use basics::wide8;
 use links::FIRSTS;
 use memory::BYTES;
 use memory::WORDS;
 use model::PIECE;
 use record_step::Record;
 use request_answer::Reply;
-use table_entries::wide;
 
 // What becomes of a piece: refused, or taken with so many replies.
 pub enum Answer {
@@ -21,6 +21,30 @@ pub enum Answer {
     Long,
     Room,
     Taken(u16),
+}
+
+// Document 01's number of an answer, 0 where the piece is taken.
+pub fn number(answer: Answer) -> u8
+    ensures { λ r. ⌜ r ≡ numberOf answer ⌝ }
+{
+    match answer {
+        Answer::Unsound => 21,
+        Answer::Long => 22,
+        Answer::Room => 23,
+        Answer::Taken(_) => 0,
+    }
+}
+
+// How many replies an answer gives; a refused piece gives none.
+pub fn count(answer: Answer) -> u16
+    ensures { λ r. ⌜ r ≡ repliesOf answer ⌝ }
+{
+    match answer {
+        Answer::Unsound => 0,
+        Answer::Long => 0,
+        Answer::Room => 0,
+        Answer::Taken(k) => k,
+    }
 }
 
 // The bytes carried from the piece before, and how many they are.
@@ -94,31 +118,30 @@ fn rest(carried: [u8; 3], used: usize, piece: &[u8], i: usize) -> [u8; 3]
     [a, b, c]
 }
 
-// Answers the whole records of a source before which so many bytes stand, each at its place in the buffer. The record that those bytes begin
-// is answered already.
+// Answers the whole records of a source, each at its record's place in the buffer.
 fn answer_records<'a>(
     bytes: &mut [u8; BYTES],
     words: &mut [u32; WORDS],
     first: &'a [u16; FIRSTS],
     source: &'a [u8],
-    used: usize,
     replies: &mut [u8],
 )
-    requires { ⌜ Room used (now source) (now replies) ⌝ }
-    ensures { λ _. ⌜ RanOn (now (first .entry)) used (now (bytes .entry)) (now (words .entry)) (now (source .entry)) (now (replies .entry))
+    requires { ⌜ Room 0 (now source) (now replies) ⌝ }
+    ensures { λ _. ⌜ Ran (now (first .entry)) (now (bytes .entry)) (now (words .entry)) (now (replies .entry)) (now (source .entry))
         (now (bytes .exit)) (now (words .exit)) (now (replies .exit)) ⌝ }
 {
-    let count = (used + source.len()) / 4;
-    let mut k = (used + 3) / 4;
+    let count = source.len() / 4;
+    let mut k: usize = 0;
     while k < count {
-        let record = record_in(source, 4 * k - used);
+        let record = record_in(source, 4 * k);
         let reply = record_step::step(bytes, words, first, record);
         write_reply(replies, 4 * k, reply);
         k += 1;
     }
 }
 
-// The whole records of the carried bytes and the piece. The one that carried bytes begin is answered by itself, before the others.
+// The whole records of the carried bytes and the piece. The one that carried bytes begin is answered by itself, then those of the rest of
+// the piece.
 fn answer_all<'a>(
     bytes: &mut [u8; BYTES],
     words: &mut [u32; WORDS],
@@ -135,15 +158,16 @@ fn answer_all<'a>(
     let held = carried.bytes;
     let used = carried.used;
     if used < 1 {
-        answer_records(bytes, words, first, piece, 0, replies);
+        answer_records(bytes, words, first, piece, replies);
         return;
     }
     if used + piece.len() < 4 {
         return;
     }
     let front = head(held, used, piece);
-    answer_records(bytes, words, first, &front, 0, replies);
-    answer_records(bytes, words, first, piece, used, replies);
+    answer_records(bytes, words, first, &front, replies);
+    let from = 4 - used;
+    answer_records(bytes, words, first, &piece[from..], &mut replies[4..]);
 }
 
 // A piece that is not refused, after so many carried bytes: its records answered, the bytes left over carried.
@@ -187,7 +211,7 @@ pub fn feed<'a>(
     if PIECE < piece.len() {
         return Answer::Long;
     }
-    let used = wide(memory::used(bytes));
+    let used = wide8(memory::used(bytes));
     let count = (used + piece.len()) / 4;
     if replies.len() < 4 * count {
         return Answer::Room;

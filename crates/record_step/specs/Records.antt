@@ -2,7 +2,7 @@
 use mathlib.Core.Path.{_≡_}
 use mathlib.Core.Bool.{Bool, true, false}
 use mathlib.Core.List.{List, _∷_, []}
-use Prim.Native.Nat.{ℕ, _≤_}
+use Prim.Native.Nat.{ℕ, _<_, _≤_}
 use lib.Dec.{eqb}
 use lib.IntN.{pos, negsuc}
 use Rattle.model.specs.Logic.{if_then_else_}
@@ -10,9 +10,10 @@ use Rattle.model.specs.State.{State}
 use Rattle.model.specs.Records.{Rec, Bounds, LAST, RESULT, allowed}
 use Rattle.model.specs.Steps.{request, recordStep}
 use Rattle.memory.specs.Layout.{stateIn}
+use Rattle.memory.specs.Ready.{Full}
 use Rattle.links.specs.Firsts.{Indexed}
 use Rattle.request_answer.specs.declared.Reply.{Reply}
-use Rattle.request_answer.specs.Promises.{replyOf, LeadsBy}
+use Rattle.request_answer.specs.Promises.{replyOf, Stays}
 use Rattle.record_step.specs.declared.CallbackKind.the-variants.{Suspend, Resume, Idle}
 use Rattle.record_step.specs.declared.Callback.{Callback}
 use Rattle.record_step.specs.declared.Callback.the-variants.{None, Open}
@@ -58,8 +59,12 @@ pub record Requested (kind v : ℕ) : Type 0 where
   pub fits : allowed kind v ≡ true
 
 pub record RequestLeads (kind v : ℕ) (first bytes₀ words₀ : List ℕ) (p : ℕ) (bytes words : List ℕ) (r : Reply) : Type 0 where
-  pub is : Requested kind v → LeadsBy (λ s p. request s kind p v) first bytes₀ words₀ p bytes words r
+  pub is : Requested kind v → Indexed (stateIn bytes₀ words₀) first → p < stateIn bytes₀ words₀ .wiring .n
+      → request (stateIn bytes₀ words₀) kind p v ≡ record { state = stateIn bytes words; reply = replyOf r }
+  pub stays : Full (stateIn bytes₀ words₀) → Stays bytes₀ words₀ bytes words
 
--- a whole record, from a ready state whose links the index is of (`sound-stepped` in proofs/Stepping.antt: from a sound state)
+-- a whole record, from a ready state whose links the index is of (`sound-stepped` in proofs/Stepping.antt: from a sound state); from any
+-- other, where all cells are there, nothing fixed changes
 pub record Stepped (first bytes₀ words₀ : List ℕ) (r : Rec) (bytes words : List ℕ) (reply : Reply) : Type 0 where
   pub is : Indexed (stateIn bytes₀ words₀) first → recordStep (stateIn bytes₀ words₀) r ≡ record { state = stateIn bytes words; reply = replyOf reply }
+  pub stays : Full (stateIn bytes₀ words₀) → Stays bytes₀ words₀ bytes words

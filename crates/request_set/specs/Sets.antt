@@ -12,7 +12,7 @@ use Rattle.model.specs.Requests.{supplierDown, ignoreChildren}
 use Rattle.memory.specs.Layout.{stateIn}
 use Rattle.links.specs.Firsts.{Indexed}
 use Rattle.request_answer.specs.declared.Reply.{Reply}
-use Rattle.request_answer.specs.Promises.{Leads}
+use Rattle.request_answer.specs.Promises.{Stays, Leads}
 
 -- link i is a runtime link, and its supplier is not active
 unfoldable pub linkDown : State → ℕ → Bool
@@ -29,3 +29,4 @@ pub record Down (first bytes : List ℕ) (p : ℕ) (r : Bool) : Type 0 where
 -- kind 12 to a value that it allows leads from one memory to the other, whatever the words are
 pub record IgnoreLeads (v : ℕ) (bytes₀ : List ℕ) (p : ℕ) (bytes : List ℕ) (r : Reply) : Type 0 where
   pub is : allowed 12 v ≡ true → (words : List ℕ) → Leads (λ s p. ignoreChildren s p v) bytes₀ words p bytes words r
+  pub stays : (words : List ℕ) → Stays bytes₀ words bytes words

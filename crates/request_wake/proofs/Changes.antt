@@ -2,14 +2,13 @@
 use mathlib.Core.Path.{_≡_, subst}
 use mathlib.Core.Bool.{true, false}
 use mathlib.Core.List.{List}
-use Prim.Native.Nat.{ℕ, _+_, _<_, _≤_}
+use Prim.Native.Nat.{ℕ, _<_}
 use native.Mathlib.Omega.{arith}
 use native.Mathlib.Decide.{decLt}
 use lib.Dec.{eqb, ltb}
-use borrow.Author.Tests.{eqb-false}
-use Rattle.model.specs.Limits.{MAXHOLDS, EAGAIN, EBUSY, EINVAL, minus}
+use Rattle.model.specs.Limits.{EAGAIN, EBUSY, EINVAL, minus}
 use Rattle.model.specs.Logic.{if_then_else_}
-use Rattle.model.specs.State.{State, SUSPENDED, ACTIVE, statusAt, holdsAt, errorAt, depthAt, withStatus, withCallback, withError}
+use Rattle.model.specs.State.{State, SUSPENDED, ACTIVE, statusAt, errorAt, depthAt, withStatus, withCallback, withError}
 use Rattle.model.specs.WakeSet.{lowest}
 use Rattle.model.specs.Records.{Done, finished}
 use Rattle.model.specs.Requests.{get, othersBarred, askResume, wake}
@@ -87,19 +86,13 @@ module _ (s : State) (p t v : ℕ) {a b : State} where
   goes-target l set close = rw (close, set) l
 
 -- ---- what a get leaves is ready, with the same links and as many devices
-one-more : {s : State} (p : ℕ) → Ready s → eqb (holdsAt s p) MAXHOLDS ≡ false → holdsAt s p + 1 ≤ MAXHOLDS
-one-more {s} p h n =
-    let most = h .holds p in
-    let other = eqb-false (holdsAt s p) MAXHOLDS n in
-    elim (decLt (holdsAt s p) MAXHOLDS) [ yes y ↦ omega arith | no g ↦ absurd (other (omega arith)) ]
-
 module _ (s u : State) (p code : ℕ) (e : get s p ≡ finished u p code) where
   pub get-indexed : {first : List ℕ} → Indexed s first → Indexed u first
   unfolding get
   get-indexed {first} h =
       subst (λ (d : Done). Indexed (d .state) first) e
       (by-if (λ (d : Done). Indexed (d .state) first) _ _ _ (λ y. h)
-      (λ n. record { ready = ready-holds p _ (one-more p (h .ready) n) (h .ready); index = h .index }))
+      (λ n. record { ready = ready-holds p _ (h .ready); index = h .index }))
 
   pub get-count : p < s .wiring .n → p < u .wiring .n
   unfolding get

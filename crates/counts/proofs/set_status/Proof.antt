@@ -1,7 +1,7 @@
 -- Where the device was powered and stays so, or neither, no count changes; else its parent's count and its suppliers' counts follow, which
 -- is a law of `Turning` over states. Assumes nothing.
-use Rattle.counts.proofs.Turning.{row-of, turned-same, turned-other}
-use Rattle.links.proofs.Order.{listed, index-first, index-next, next-fits}
+use mathlib.Core.Path.{_∙_}
+use Rattle.counts.proofs.Turning.{row-of, turned-same, turned-indexed, any-same, any-other}
 use borrow.Author.Needs.{needs}
 use denote.Ref.{now}
 use Rattle.counts.proofs.set_status.Statement.{statement}
@@ -18,6 +18,7 @@ returns c =
     let same = rw (was .powered .ensures, old .status .ensures words, new .powered2 .ensures) at (c .if1 .taken) in
     record {
       is = λ h l. rw (stored .set-status-cell .ensures) (turned-same _ _ _ (h .ready) (row-of (h .ready) _ l) same);
+      any = rw (stored .set-status-cell .ensures) (any-same _ _ _ _ same);
     }
 
 -- the counts follow
@@ -32,11 +33,11 @@ returns-2 c =
     let words = now (old .before .before .args .words) in
     let up = new .powered2 .ensures in
     let other = rw (was .powered .ensures, old .status .ensures words, up) at (test .if1 .left) in
+    let links = c .shift-links .ensures in
     record {
-      is =
-          λ h l.
-          let links = c .shift-links .ensures .is _ _ (index-first (listed h) _ l) (index-next (listed h) _ l) (next-fits (listed h) _) in
-          rw (links, child .shift-child .ensures, stored .set-status-cell .ensures, up) (turned-other _ _ _ (h .ready) (row-of (h .ready) _ l) l other);
+      is = λ h l.
+          rw (links, child .shift-child .ensures, stored .set-status-cell .ensures, up) (any-other _ _ _ _ other ∙ turned-indexed _ _ _ _ h l other);
+      any = rw (links, child .shift-child .ensures, stored .set-status-cell .ensures, up) (any-other _ _ _ _ other);
     }
 
 pub set-status-spec : {M : Type 1} → statement M

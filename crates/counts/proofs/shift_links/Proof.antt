@@ -6,7 +6,7 @@ use native.Mathlib.Omega.{arith}
 use Rattle.model.specs.Limits.{LINKS, ROWS}
 use Rattle.memory.specs.Layout.{stateIn}
 use Rattle.counts.specs.Shifts.{shiftLinks}
-use Rattle.counts.proofs.Turning.{links-none, links-more}
+use Rattle.counts.proofs.Turning.{links-none, links-more, links-past, links-within}
 use borrow.Author.Needs.{needs}
 use Rattle.counts.proofs.shift_links.Statement.{statement}
 use Rattle.counts.proofs.shift_links.Tie as tie
@@ -25,8 +25,7 @@ returns c =
     let end = c .before in
     let start = end .before .before in
     let at = start .before .before in
-    let past = c .if1 .taken in
-    record { is = λ a b x y l. let e = rw (at .row .ensures .0) at (end .wide2 .ensures) in absurd (omega arith) }
+    links-past _ _ _ _ (rw (end .wide2 .ensures, at .row .ensures .0) at (c .if1 .taken))
 
 loop-holds : tie.Need-loop-holds Inv-loop μ-loop
 loop-holds c = (omega arith, (omega arith, sym (links-none _ _ _)))
@@ -39,20 +38,19 @@ loop-again c =
 
 -- every link of p is passed
 returns-2 : tie.Need-returns-2 Inv-loop μ-loop
+unfolding LINKS
 returns-2 c =
     let loop = c .before in
-    let end = loop .before .before in
+    let within = loop .before in
+    let end = within .before in
     let start = end .before .before in
     let at = start .before .before in
     let past = c .loop-test .left in
     let all : loop .loop .i - start .wide .result ≡ end .wide2 .result - start .wide .result = omega arith in
-    record {
-      is =
-          λ a b x y z.
-          let from = rw (at .row .ensures .0) at (start .wide .ensures) ∙ x in
-          let to = rw (at .row .ensures .0) at (end .wide2 .ensures) ∙ y in
-          rw (all, from, to) at (loop .loop .inv .1 .1);
-    }
+    let from = rw (at .row .ensures .0) at (start .wide .ensures) in
+    let to = rw (at .row .ensures .0) at (end .wide2 .ensures) in
+    let fits = rw to at (within .if1 .left) in
+    (rw (all, from, to) at (loop .loop .inv .1 .1)) ∙ links-within (at .before .args .first .now) _ (at .before .args .p) _ fits
 
 pub shift-links-spec : {M : Type 1} → statement M
 unfolding ROWS

@@ -33,7 +33,7 @@ returns-3 c =
     let u = c .before in
     let short = u .before .before .before in
     let s = short .before in
-    let used = u .wide .ensures ∙ u .before .used .ensures _ in
+    let used = u .wide8 .ensures ∙ u .before .used .ensures _ in
     let number = room-number _ _ _ (passed (s .before .sound .ensures) (s .if1 .left)) used (short .if2 .left) (c .if3 .taken) in
     record { number = sym number; untouched = λ n. (refl, refl, refl); is = λ a b. fed-refused _ _ 23 refl number }
 
@@ -43,8 +43,9 @@ take-piece-requires c κs =
     let u = room .before in
     let short = u .before .before .before in
     let s = short .before in
-    let start = s .before .before .before .before .before .before in
-    let used = u .wide .ensures ∙ u .before .used .ensures (start .args .words .now) in
+    let tested = s .before .before .before in
+    let start = tested .before .before .before in
+    let used = u .wide8 .ensures ∙ u .before .used .ensures (start .args .words .now) in
     let few = few-carried (at-start start) (passed (s .before .sound .ensures) (s .if1 .left)) in
     record { few = rw used few; short = short .if2 .left; room = room .if3 .left }
 
@@ -56,7 +57,7 @@ returns-4 c =
     let u = room .before in
     let short = u .before .before .before in
     let s = short .before in
-    let used = u .wide .ensures ∙ u .before .used .ensures _ in
+    let used = u .wide8 .ensures ∙ u .before .used .ensures _ in
     let test = passed (s .before .sound .ensures) (s .if1 .left) in
     let number = taken-number _ _ _ test used (short .if2 .left) (room .if3 .left) in
     record {

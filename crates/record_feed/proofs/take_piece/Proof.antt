@@ -11,7 +11,8 @@ returns : tie.Need-returns
 returns c =
     let left = c .before .before in
     let answered = left .before .before .before in
-    let cleared = answered .before .before .before .before .before in
+    let lent = answered .before .before .before in
+    let cleared = lent .before .before in
     let indexed = cleared .before .before in
     let held = indexed .before .before .before in
     let start = held .before .before .before .before in

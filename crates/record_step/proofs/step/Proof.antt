@@ -1,5 +1,5 @@
 -- Each exit is a law of the model's record: refused, a result, busy, or a request. Assumes nothing.
-use mathlib.Core.Path.{sym, _∙_}
+use mathlib.Core.Path.{refl, sym, _∙_}
 use Rattle.model.specs.State.{State}
 use Rattle.memory.specs.Layout.{stateIn}
 use Rattle.record_step.proofs.Stepping.{well-formed, is-request, record-refused, record-result, record-busy, record-asks}
@@ -15,7 +15,10 @@ at-start b = stateIn (b .args .bytes .now) (b .args .words .now)
 returns : tie.Need-returns
 returns c =
     let judged = c .before .before in
-    record { is = λ h. rw (c .refused .ensures) (record-refused _ _ (judged .before .devices .ensures _) (judged .fault .ensures) (c .before .if1 .taken)) }
+    record {
+      is = λ h. rw (c .refused .ensures) (record-refused _ _ (judged .before .devices .ensures _) (judged .fault .ensures) (c .before .if1 .taken));
+      stays = λ f. refl;
+    }
 
 -- a callback's result
 returns-2 : tie.Need-returns-2
@@ -31,6 +34,7 @@ returns-2 c =
           let told = judged .fault .ensures in
           record-result _ _ many told (fine .if1 .left) (kinded .if2 .taken)
           ∙ c .result .ensures .is h (well-formed (at-start start) _ many told (fine .if1 .left) .known);
+      stays = c .result .ensures .stays;
     }
 
 busy-requires : tie.Need-busy-requires
@@ -54,6 +58,7 @@ returns-3 c =
           rw (c .finished .ensures)
           (record-busy _ _ (judged .before .devices .ensures _) (judged .fault .ensures) (fine .if1 .left) (kinded .if2 .left)
           (sym (asked .busy .ensures _) ∙ c .before .if3 .taken));
+      stays = λ f. refl;
     }
 
 -- a request
@@ -71,8 +76,9 @@ returns-4 c =
           let many = judged .before .devices .ensures (start .args .words .now) in
           let told = judged .fault .ensures in
           record-asks _ _ many told (fine .if1 .left) (kinded .if2 .left) (sym (asked .busy .ensures _) ∙ free .if3 .left)
-          ∙ c .request .ensures .is (is-request (at-start start) _ many told (fine .if1 .left) (kinded .if2 .left)) .is h
+          ∙ c .request .ensures .is (is-request (at-start start) _ many told (fine .if1 .left) (kinded .if2 .left)) h
           (well-formed (at-start start) _ many told (fine .if1 .left) .known);
+      stays = c .request .ensures .stays;
     }
 
 pub step-spec : {M : Type 1} → statement M

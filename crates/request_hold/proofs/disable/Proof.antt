@@ -13,14 +13,14 @@ returns : tie.Need-returns
 unfolding disable if_then_else_
 returns c =
     let read = c .before .depth in
-    λ words. record { is = λ h. rw (← read .ensures, eq-eqb (read .result) MAXDEPTH (omega arith)) }
+    λ words. rw (← read .ensures, eq-eqb (read .result) MAXDEPTH (omega arith))
 
 -- it rises by 1
 returns-2 : tie.Need-returns-2
 unfolding disable if_then_else_
 returns-2 c =
     let read = c .before .before .before .depth in
-    λ words. record { is = λ h. rw (c .set-depth .ensures, ← read .ensures, ne-eqb (read .result) MAXDEPTH (λ z. omega arith)) }
+    λ words. rw (c .set-depth .ensures, ← read .ensures, ne-eqb (read .result) MAXDEPTH (λ z. omega arith))
 
 pub disable-spec : {M : Type 1} → statement M
 disable-spec = tie.close (tie.spec (λ c κs. search needs) returns (λ c. search needs) (λ c κs. search needs) returns-2)

@@ -12,14 +12,14 @@ returns : tie.Need-returns
 unfolding enable if_then_else_
 returns c =
     let read = c .before .depth in
-    λ words. record { is = λ h. rw (← read .ensures, eq-eqb (read .result) 0 (omega arith)) }
+    λ words. rw (← read .ensures, eq-eqb (read .result) 0 (omega arith))
 
 -- it falls by 1
 returns-2 : tie.Need-returns-2
 unfolding enable if_then_else_
 returns-2 c =
     let read = c .before .before .before .depth in
-    λ words. record { is = λ h. rw (c .set-depth .ensures, ← read .ensures, ne-eqb (read .result) 0 (λ z. omega arith)) }
+    λ words. rw (c .set-depth .ensures, ← read .ensures, ne-eqb (read .result) 0 (λ z. omega arith))
 
 pub enable-spec : {M : Type 1} → statement M
 enable-spec = tie.close (tie.spec (λ c κs. search needs) returns (λ c κs. search needs) returns-2)

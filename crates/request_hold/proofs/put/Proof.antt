@@ -12,14 +12,14 @@ returns : tie.Need-returns
 unfolding put if_then_else_
 returns c =
     let read = c .before .holds in
-    λ bytes. record { is = λ h. rw (← read .ensures, eq-eqb (read .result) 0 (omega arith)) }
+    λ bytes. rw (← read .ensures, eq-eqb (read .result) 0 (omega arith))
 
 -- they fall by 1
 returns-2 : tie.Need-returns-2
 unfolding put if_then_else_
 returns-2 c =
     let read = c .before .before .before .holds in
-    λ bytes. record { is = λ h. rw (c .set-holds .ensures, ← read .ensures, ne-eqb (read .result) 0 (λ z. omega arith)) }
+    λ bytes. rw (c .set-holds .ensures, ← read .ensures, ne-eqb (read .result) 0 (λ z. omega arith))
 
 pub put-spec : {M : Type 1} → statement M
 put-spec = tie.close (tie.spec (λ c κs. search needs) returns (λ c κs. search needs) returns-2)

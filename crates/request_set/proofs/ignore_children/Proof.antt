@@ -1,5 +1,6 @@
 -- A value that the kind allows is 0 or 1. Assumes nothing.
-use mathlib.Core.Path.{sym, _∙_}
+use mathlib.Core.Path.{refl, sym, _∙_, ap}
+use Rattle.memory.specs.Ready.{fixed}
 use Rattle.model.proofs.Values.{flag-low}
 use Rattle.request_set.proofs.Downs.{ignore-on, ignore-busy, ignore-off}
 use borrow.Author.Needs.{needs}
@@ -11,7 +12,8 @@ returns : tie.Need-returns
 returns c =
     let set = c .before in
     record {
-      is = λ a words. record { is = λ h l. rw (c .finished .ensures) (ignore-on _ _ _ (flag-low _ a) (set .before .before .if1 .taken) (set .set-ignore .ensures words)) };
+      is = λ a words. record { is = λ h. rw (c .finished .ensures) (ignore-on _ _ _ (flag-low _ a) (set .before .before .if1 .taken) (set .set-ignore .ensures words)) };
+      stays = λ words. ap fixed (set .set-ignore .ensures words);
     }
 
 -- not turned off: it is not active and has powered children
@@ -20,7 +22,8 @@ returns-2 c =
     let asked = c .before .before in
     let off = asked .before .before .if1 .left in
     record {
-      is = λ a words. record { is = λ h l. rw (c .finished2 .ensures) (ignore-busy _ _ _ off (sym (asked .inactive-with-children .ensures words) ∙ c .before .if2 .taken)) };
+      is = λ a words. record { is = λ h. rw (c .finished2 .ensures) (ignore-busy _ _ _ off (sym (asked .inactive-with-children .ensures words) ∙ c .before .if2 .taken)) };
+      stays = λ words. refl;
     }
 
 -- turned off
@@ -35,10 +38,11 @@ returns-3 c =
           λ a words.
           record {
             is =
-                λ h l.
+                λ h.
                 rw (c .finished3 .ensures)
                 (ignore-off _ _ _ off (sym (asked .inactive-with-children .ensures words) ∙ tested .if2 .left) (set .set-ignore2 .ensures words));
           };
+      stays = λ words. ap fixed (set .set-ignore2 .ensures words);
     }
 
 pub ignore-children-spec : {M : Type 1} → statement M

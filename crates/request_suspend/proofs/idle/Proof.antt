@@ -1,5 +1,5 @@
 -- The code chosen is 0 only where every test passed; otherwise it is the first that did not. Assumes nothing.
-use Rattle.memory.proofs.Readiness.{long}
+use Rattle.memory.proofs.Readiness.{full-long}
 use Rattle.request_suspend.proofs.Changes.{idle-stops, idle-asks}
 use borrow.Author.Needs.{needs}
 use Rattle.request_suspend.proofs.idle.Statement.{statement}
@@ -14,7 +14,7 @@ returns c =
     let chosen = tested .before .before in
     record {
       is =
-          λ h l.
+          λ h.
           let status = rw (chosen .before .status .ensures (chosen .before .before .before .args .words .now)) at (chosen .choose .ensures) in
           rw (c .finished .ensures) (idle-stops _ _ (tested .suspend-test .ensures) status (coded .first-code .ensures) (failed .if1 .taken));
     }
@@ -29,9 +29,9 @@ returns-2 c =
     let chosen = tested .before .before in
     record {
       is =
-          λ h l.
+          λ h.
           let status = rw (chosen .before .status .ensures (chosen .before .before .before .args .words .now)) at (chosen .choose .ensures) in
-          rw (opened .set-callback .ensures _ (long _ _ h), c .ask .ensures)
+          rw (opened .set-callback .ensures _ (full-long _ _ h), c .ask .ensures)
           (idle-asks _ _ (tested .suspend-test .ensures) status (coded .first-code .ensures) (passed .if1 .left));
     }
 

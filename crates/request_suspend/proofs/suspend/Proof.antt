@@ -1,5 +1,5 @@
 -- The code chosen is 0 only where every test passed; otherwise it is the first that did not. Assumes nothing.
-use mathlib.Core.Path.{_∙_}
+use mathlib.Core.Path.{refl, _∙_}
 use Rattle.request_suspend.proofs.Changes.{suspend-stops, suspend-asks}
 use borrow.Author.Needs.{needs}
 use Rattle.request_suspend.proofs.suspend.Statement.{statement}
@@ -17,6 +17,7 @@ returns c =
           λ h l.
           let status = rw (chosen .before .status .ensures (chosen .before .before .before .args .words .now)) at (chosen .choose .ensures) in
           rw (c .finished .ensures) (suspend-stops _ _ (tested .suspend-test .ensures) status (coded .first-code .ensures) (failed .if1 .taken));
+      stays = λ f. refl;
     }
 
 -- it is asked to suspend
@@ -31,6 +32,7 @@ returns-2 c =
           λ h l.
           let status = rw (chosen .before .status .ensures (chosen .before .before .before .args .words .now)) at (chosen .choose .ensures) in
           suspend-asks _ _ (tested .suspend-test .ensures) status (coded .first-code .ensures) (passed .if1 .left) ∙ c .ask-suspend .ensures .is h l;
+      stays = c .ask-suspend .ensures .stays;
     }
 
 pub suspend-spec : {M : Type 1} → statement M

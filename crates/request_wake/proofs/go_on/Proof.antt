@@ -1,5 +1,5 @@
 -- `request_wake::go_on` meets its contract: the lowest member is the model's, and whether there is one decides. Assumes nothing.
-use mathlib.Core.Path.{_∙_}
+use mathlib.Core.Path.{refl, _∙_}
 use borrow.Author.Tests.{lt-ltb, le-ltb}
 use borrow.Author.Needs.{needs}
 use Rattle.links.proofs.Order.{listed}
@@ -19,6 +19,7 @@ returns c =
           λ h l.
           let low = found .lowest-member .ensures .is words (listed h) l in
           rw (c .finished .ensures) (goes-done _ _ low (le-ltb _ _ (rw (counted .devices .ensures words) at (test .if1 .taken))));
+      stays = λ f. refl;
     }
 
 -- the lowest is asked
@@ -34,6 +35,7 @@ returns-2 c =
           let low = found .lowest-member .ensures .is words (listed h) l in
           goes-asks _ _ low (lt-ltb _ _ (rw (counted .devices .ensures words) at (test .if1 .left)))
           ∙ c .ask-resume .ensures .is _ (h .ready) (rw low (lowest-asleep (h .ready) _ l));
+      stays = c .ask-resume .ensures .stays words;
     }
 
 pub go-on-spec : {M : Type 1} → statement M

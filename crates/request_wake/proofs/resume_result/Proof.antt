@@ -1,10 +1,12 @@
 -- `request_wake::resume_result` meets its contract: the status is set and the callback closed; then the wake goes on from that state, or
 -- its failure is kept and told. Assumes nothing.
 use borrow.Author.Tests.{eq-eqb, ne-eqb}
-use mathlib.Core.Path.{_∙_}
+use mathlib.Core.Path.{_∙_, ap}
 use Rattle.model.specs.State.{State}
 use Rattle.memory.specs.Layout.{stateIn}
-use Rattle.memory.proofs.Readiness.{long-turned}
+use Rattle.memory.specs.Ready.{fixed}
+use Rattle.memory.proofs.Readiness.{long-turned, then-callback, stays-full}
+use Rattle.counts.proofs.Turning.{turned-on}
 use Rattle.request_wake.proofs.Changes.{result-goes, result-failed, goes-indexed, goes-target}
 use borrow.Author.Needs.{needs}
 use Rattle.request_wake.proofs.resume_result.Statement.{statement}
@@ -21,17 +23,15 @@ returns c =
     let setting = closing .before .before in
     let tested = setting .before .before .before in
     let start = tested .before in
+    let shut = then-callback _ _ _ _ _ _ _ _ (turned-on (setting .set-status .ensures)) (closing .set-callback .ensures) in
     record {
       is =
-          λ lt.
-          record {
-            is =
-                λ h l.
-                let set = setting .set-status .ensures .is h l in
-                let close = closing .set-callback .ensures _ (long-turned _ _ _ _ _ (h .ready) set) in
-                result-goes _ _ _ _ set close (eq-eqb _ _ (tested .if1 .taken))
-                ∙ c .go-on .ensures .is (goes-indexed _ _ 0 0 l h set close) (goes-target (at-start start) (start .args .p) _ 0 lt set close);
-          };
+          λ lt h l.
+          let set = setting .set-status .ensures .is h l in
+          let close = closing .set-callback .ensures _ (long-turned _ _ _ _ _ (h .ready) set) in
+          result-goes _ _ _ _ set close (eq-eqb _ _ (tested .if1 .taken))
+          ∙ c .go-on .ensures .is (goes-indexed _ _ 0 0 l h set close) (goes-target (at-start start) (start .args .p) _ 0 lt set close);
+      stays = λ f. c .go-on .ensures .stays (stays-full _ _ _ _ (shut f) f) ∙ shut f;
     }
 
 -- it failed
@@ -43,18 +43,16 @@ returns-2 c =
     let closing = sizing .before .before in
     let setting = closing .before .before in
     let tested = setting .before .before .before in
+    let shut = then-callback _ _ _ _ _ _ _ _ (turned-on (setting .set-status2 .ensures)) (closing .set-callback2 .ensures) in
     record {
       is =
-          λ lt.
-          record {
-            is =
-                λ h l.
-                let set = setting .set-status2 .ensures .is h l in
-                let close = closing .set-callback2 .ensures _ (long-turned _ _ _ _ _ (h .ready) set) in
-                rw (c .finished .ensures)
-                (result-failed _ _ _ _ set close (keeping .set-error .ensures _) (sizing .magnitude .ensures) (telling .failed .ensures)
-                (ne-eqb _ _ (tested .if1 .left)));
-          };
+          λ lt h l.
+          let set = setting .set-status2 .ensures .is h l in
+          let close = closing .set-callback2 .ensures _ (long-turned _ _ _ _ _ (h .ready) set) in
+          rw (c .finished .ensures)
+          (result-failed _ _ _ _ set close (keeping .set-error .ensures _) (sizing .magnitude .ensures) (telling .failed .ensures)
+          (ne-eqb _ _ (tested .if1 .left)));
+      stays = λ f. ap fixed (keeping .set-error .ensures _) ∙ shut f;
     }
 
 pub resume-result-spec : {M : Type 1} → statement M

@@ -1,6 +1,6 @@
 -- `request_wake::wake` meets its contract: the model's tests are made one after another, each exit has the facts of those passed, and a
 -- law of `Changes` says what the model then answers. Assumes nothing.
-use mathlib.Core.Path.{_≡_, _∙_}
+use mathlib.Core.Path.{_≡_, refl, _∙_}
 use mathlib.Core.Bool.{false}
 use lib.Dec.{ltb, eqb}
 use borrow.Author.Tests.{eq-eqb, ne-eqb, lt-ltb, le-ltb}
@@ -40,21 +40,30 @@ inactive c = rw (← c .before .status .ensures) (ne-eqb _ _ (c .if3 .left))
 returns : tie.Need-returns
 returns c =
     let test = c .before in
-    record { is = λ h l. rw (c .finished .ensures) (wake-error _ _ (rw (← test .before .error .ensures) (lt-ltb _ _ (test .if1 .taken)))) }
+    record {
+      is = λ h l. rw (c .finished .ensures) (wake-error _ _ (rw (← test .before .error .ensures) (lt-ltb _ _ (test .if1 .taken))));
+      stays = λ f. refl;
+    }
 
 -- it is disabled
 returns-2 : tie.Need-returns-2
 returns-2 c =
     let test = c .before in
     let asked = test .before in
-    record { is = λ h l. rw (c .finished2 .ensures) (wake-disabled _ _ (no-error (asked .before .before)) (rw (← asked .depth .ensures) (lt-ltb _ _ (test .if2 .taken)))) }
+    record {
+      is = λ h l. rw (c .finished2 .ensures) (wake-disabled _ _ (no-error (asked .before .before)) (rw (← asked .depth .ensures) (lt-ltb _ _ (test .if2 .taken))));
+      stays = λ f. refl;
+    }
 
 -- it is active
 returns-3 : tie.Need-returns-3
 returns-3 c =
     let test = c .before in
     let asked = test .before in
-    record { is = λ h l. rw (c .finished3 .ensures) (wake-active _ _ (clear (asked .before .before)) (rw (← asked .status .ensures) (eq-eqb _ _ (test .if3 .taken)))) }
+    record {
+      is = λ h l. rw (c .finished3 .ensures) (wake-active _ _ (clear (asked .before .before)) (rw (← asked .status .ensures) (eq-eqb _ _ (test .if3 .taken))));
+      stays = λ f. refl;
+    }
 
 -- another member is barred
 returns-4 : tie.Need-returns-4
@@ -67,6 +76,7 @@ returns-4 c =
           λ h l.
           rw (c .finished4 .ensures)
           (wake-barred _ _ (clear (second-passed passed)) (inactive passed) (rw (found .reached .ensures .barred (listed h) l) at (test .if4 .taken)));
+      stays = λ f. refl;
     }
 
 -- the lowest member is asked
@@ -82,6 +92,7 @@ returns-5 c =
           let free = rw (found .reached .ensures .barred (listed h) l) at (test .if4 .left) in
           wake-asks _ _ (clear (second-passed passed)) (inactive passed) free low
           ∙ c .ask-resume .ensures .is _ (h .ready) (rw low (lowest-asleep (h .ready) _ l));
+      stays = c .ask-resume .ensures .stays _;
     }
 
 pub wake-spec : {M : Type 1} → statement M
