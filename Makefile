@@ -67,6 +67,7 @@ sample:
 # the proved code, linked with the second implementation
 harness:
 	rt check keeper wakeset counts
+	rt staticlib export_cells
 	rt staticlib export_states
 	rt staticlib export_load
 	rt staticlib export_feed

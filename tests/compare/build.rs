@@ -1,5 +1,6 @@
-//! Links the keeper: the archives of `export_states`, `export_load` and `export_feed` in
-//! `target/staticlib` of the repository, or in the folder that KEEPER_ARCHIVES names.
+//! Links the keeper: the archives of `export_cells`, `export_states`, `export_load` and
+//! `export_feed` in `target/staticlib` of the repository, or in the folder that
+//! KEEPER_ARCHIVES names.
 
 use std::env;
 use std::fs;
@@ -12,7 +13,12 @@ fn main() {
         .map_or_else(|| package.join("../../target/staticlib"), PathBuf::from);
     println!("cargo:rerun-if-env-changed=KEEPER_ARCHIVES");
     println!("cargo:rustc-link-search=native={}", out.display());
-    for name in ["export_states", "export_load", "export_feed"] {
+    for name in [
+        "export_cells",
+        "export_states",
+        "export_load",
+        "export_feed",
+    ] {
         link(name, &folder, &out);
     }
 }

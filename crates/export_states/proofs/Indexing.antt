@@ -12,6 +12,7 @@ use Rattle.memory.specs.Ready.{Ready}
 use Rattle.links.specs.Firsts.{firstLinks, Listed, Indexed}
 use Rattle.wakeset.specs.Marks.{IsWakeSet, IsLowest}
 use Rattle.counts.specs.Shifts.{Turned}
+use Rattle.counts.proofs.Turning.{turned-on}
 use Rattle.request_answer.specs.declared.Reply as declared
 use Rattle.request_answer.specs.Promises.{replyOf}
 use Rattle.record_step.specs.Records.{Stepped}
@@ -35,8 +36,10 @@ module _ {bytes words first : List ℕ} {t : ℕ} where
   lowest-is index h = record { powered = h .powered words; asleep = h .asleep words; is = λ order below. h .is words (listed index order) below }
 
 module _ {first bytes₀ words₀ : List ℕ} where
-  pub status-set : {p v : ℕ} {bytes words : List ℕ} → IndexOf (stateIn bytes₀ words₀ .wiring) first → Turned p v first bytes₀ words₀ bytes words → StatusSet p v bytes₀ words₀ bytes words
-  status-set index turned = record { is = λ ready below. turned .is (indexed bytes₀ words₀ index ready) below }
+  pub status-set :
+      {p v : ℕ} {bytes words : List ℕ} → IndexOf (stateIn bytes₀ words₀ .wiring) first → Turned p v first bytes₀ words₀ bytes words
+      → StatusSet p v bytes₀ words₀ bytes words
+  status-set index turned = record { is = λ ready below. turned .is (indexed bytes₀ words₀ index ready) below; stays = turned-on turned }
 
   pub step-is :
       {r : Rec} {bytes words : List ℕ} (reply : declared.Reply) {answer : ℕ} → IndexOf (stateIn bytes₀ words₀ .wiring) first
@@ -45,4 +48,5 @@ module _ {first bytes₀ words₀ : List ℕ} where
       record {
         state = λ ready. sym (ap (λ (d : Done). d .state) (stepped .is (indexed bytes₀ words₀ index ready)));
         reply = λ ready. told ∙ sym (ap (λ (d : Done). packed (d .reply)) (stepped .is (indexed bytes₀ words₀ index ready)));
+        stays = stepped .stays;
       }

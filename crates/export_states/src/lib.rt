@@ -1,14 +1,11 @@
-// The memory of a bench cell by cell, the algorithms over it and one record, as functions that Rust links.
+// The algorithms over the memory of a bench and one record, as functions that Rust links.
 ghost use mathlib.Core.Path.{_≡_};
 ghost use Rattle.memory.specs.Layout.{BYTES, WORDS, stateIn};
 ghost use Rattle.request_answer.specs.Promises.{replyOf};
 ghost use Rattle.wakeset.specs.Marks.{Above};
 ghost use Rattle.model.specs.SoundTest.{soundTest};
 ghost use Rattle.export_states.specs.Exported.{packed, WakeSetIs, LowestIs, StatusSet, StepIs};
-
-mod cells;
-
-use cells::wide8;
+use basics::word8;
 use memory::BYTES;
 use memory::WORDS;
 use model::ROWS;
@@ -83,7 +80,7 @@ fn pack(reply: Reply) -> u32
     ensures { λ r. ⌜ r ≡ packed (replyOf reply) ⌝ }
 {
     let code = reply.code as u32;
-    wide8(reply.kind) + 256 * wide8(reply.device) + 65536 * code
+    word8(reply.kind) + 256 * word8(reply.device) + 65536 * code
 }
 
 // One record: the reply to it as one number.

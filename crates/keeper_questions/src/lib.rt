@@ -8,6 +8,7 @@ ghost use Rattle.model.specs.State.{SUSPENDING};
 ghost use Rattle.model.specs.Questions.{tellStatus, tellHolds, tellUsage, tellChildren, tellWake, tellAbove};
 ghost use Rattle.keeper_bench.specs.Translate.{stateOf};
 ghost use Rattle.keeper_questions.specs.Told.{statusOf, toldBy, Checked, statusTold, numberTold, memberTold};
+use basics::word8;
 use keeper_bench::Bench;
 use memory::children;
 use memory::devices;
@@ -48,12 +49,6 @@ enum Check {
     Unsound,
     Unknown,
     Passed,
-}
-
-fn number8(x: u8) -> u32
-    ensures { λ r. ⌜ r ≡ x ⌝ }
-{
-    x as u32
 }
 
 // A use count as it is told: on a sound bench it is below 2^32.
@@ -177,7 +172,7 @@ pub fn child_count(b: Bench, device: u8) -> NumberAnswer
     ensures { λ r. ⌜ numberTold r ≡ tellChildren (stateOf b) device ⌝ }
 {
     let check = about(b, device);
-    tell_number(check, number8(children(&b.bytes, device)))
+    tell_number(check, word8(children(&b.bytes, device)))
 }
 
 // Whether another device is a member of the device's wake set.
@@ -195,5 +190,5 @@ pub fn parents_above(b: Bench, device: u8) -> NumberAnswer
     ensures { λ r. ⌜ numberTold r ≡ tellAbove (stateOf b) device ⌝ }
 {
     let check = about(b, device);
-    tell_number(check, number8(wakeset::parents_above(&b.bytes, device)))
+    tell_number(check, word8(wakeset::parents_above(&b.bytes, device)))
 }

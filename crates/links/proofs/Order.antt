@@ -51,12 +51,20 @@ module _ {w : Wiring} (r : Ordered w) where
   high p (suc n) j h l b =
       elim (decLt j n) [
         | yes y ↦ let z = high p n j (omega arith) y b in omega arith
-        | no g ↦ let e : j ≡ n = omega arith in let here : bit (ltb (getD (w .consumer) n 0) p) ≡ 1 = ap bit (lt-ltb _ _ (rw e at b)) in let all = full n (omega arith) (λ i k. let o = ordered i n (omega arith) (omega arith) in let c = rw e at b in omega arith) in omega arith
+        | no g ↦
+            let e : j ≡ n = omega arith in
+            let here : bit (ltb (getD (w .consumer) n 0) p) ≡ 1 = ap bit (lt-ltb _ _ (rw e at b)) in
+            let below : (i : ℕ) → i < n → getD (w .consumer) i 0 < p = λ i k. let o = ordered i n (omega arith) (omega arith) in let c = rw e at b in omega arith in
+            let all = full n (omega arith) below in
+            omega arith
       ]
     where
       full : (k : ℕ) → k ≤ w .m → ((i : ℕ) → i < k → getD (w .consumer) i 0 < p) → count (λ i. ltb (getD (w .consumer) i 0) p) k ≡ k
       full zero g f = refl
-      full (suc k) g f = let a = full k (omega arith) (λ i l. f i (omega arith)) in let z : bit (ltb (getD (w .consumer) k 0) p) ≡ 1 = ap bit (lt-ltb _ _ (f k (omega arith))) in omega arith
+      full (suc k) g f =
+          let a = full k (omega arith) (λ i l. f i (omega arith)) in
+          let z : bit (ltb (getD (w .consumer) k 0) p) ≡ 1 = ap bit (lt-ltb _ _ (f k (omega arith))) in
+          omega arith
 
   -- the links from the first of p to the first of p + 1 are those of p
   pub link-of : (p j : ℕ) → firstLink w p ≤ j → j < firstLink w (p + 1) → (j < w .m) × (getD (w .consumer) j 0 ≡ p)
@@ -92,7 +100,10 @@ module _ (w : Wiring) where
       count-rises (suc m) =
           let h = count-rises m in
           elim (decLt (getD (w .consumer) m 0) p) [
-            | yes y ↦ let a : bit (ltb (getD (w .consumer) m 0) (p + 1)) ≡ 1 = ap bit (lt-ltb (getD (w .consumer) m 0) (p + 1) (omega arith)) in let b = bit-low (ltb (getD (w .consumer) m 0) p) in omega arith
+            | yes y ↦
+                let a : bit (ltb (getD (w .consumer) m 0) (p + 1)) ≡ 1 = ap bit (lt-ltb (getD (w .consumer) m 0) (p + 1) (omega arith)) in
+                let b = bit-low (ltb (getD (w .consumer) m 0) p) in
+                omega arith
             | no g ↦ let a : bit (ltb (getD (w .consumer) m 0) p) ≡ 0 = ap bit (le-ltb (getD (w .consumer) m 0) p (omega arith)) in omega arith
           ]
 

@@ -25,7 +25,9 @@ unfolding ROWS
 tallied-fits consumer i first zero h l = let z = h .zero in omega arith
 tallied-fits consumer i first (suc q) h l = let z = rw (add-one q) at (h .at q (omega arith)) in let y = count-low (λ k. eqb (getD consumer k 0) q) i in omega arith
 
-pub tallied-more : (consumer : List ℕ) (i : ℕ) (first : List ℕ) (c at : ℕ) → Tallied consumer i first → c ≡ getD consumer i 0 → at ≡ c + 1 → at < 257 → Tallied consumer (i + 1) (set first at (getD first at 0 + 1))
+pub tallied-more :
+    (consumer : List ℕ) (i : ℕ) (first : List ℕ) (c at : ℕ)
+    → Tallied consumer i first → c ≡ getD consumer i 0 → at ≡ c + 1 → at < 257 → Tallied consumer (i + 1) (set first at (getD first at 0 + 1))
 unfolding count ROWS
 tallied-more consumer i first c at h e f l =
     let long = h .long in
@@ -36,8 +38,15 @@ tallied-more consumer i first c at h e f l =
       at =
           λ q b.
           elim (ℕ-discrete (q + 1) at) [
-            | yes y ↦ let here : bit (eqb (getD consumer i 0) q) ≡ 1 = ap bit (eq-eqb (getD consumer i 0) q (omega arith)) in let old = h .at q b in let z = rw y at old in rw (y, getD-set-same first at v 0 (omega arith), add-one i) (omega arith)
-            | no ne ↦ let off : bit (eqb (getD consumer i 0) q) ≡ 0 = ap bit (ne-eqb (getD consumer i 0) q (λ z. ne (omega arith))) in let old = h .at q b in rw (getD-set-other first at (q + 1) v 0 ne, add-one i) (omega arith)
+            | yes y ↦
+                let here : bit (eqb (getD consumer i 0) q) ≡ 1 = ap bit (eq-eqb (getD consumer i 0) q (omega arith)) in
+                let old = h .at q b in
+                let z = rw y at old in
+                rw (y, getD-set-same first at v 0 (omega arith), add-one i) (omega arith)
+            | no ne ↦
+                let off : bit (eqb (getD consumer i 0) q) ≡ 0 = ap bit (ne-eqb (getD consumer i 0) q (λ z. ne (omega arith))) in
+                let old = h .at q b in
+                rw (getD-set-other first at (q + 1) v 0 ne, add-one i) (omega arith)
           ];
     }
 

@@ -1,10 +1,10 @@
 -- Where the links of each device begin. Assumes nothing.
 use mathlib.Core.Path.{_≡_}
 use mathlib.Core.List.{List}
-use Prim.Native.Nat.{ℕ, _+_, _<_}
-use lib.ListN.{length, getD}
+use Prim.Native.Nat.{ℕ, _+_, _<_, _≤_}
+use lib.ListN.{length, getD, replicate}
 use lib.Dec.{ltb, eqb}
-use Rattle.model.specs.Limits.{ROWS}
+use Rattle.model.specs.Limits.{ROWS, LINKS}
 use Rattle.model.specs.Logic.{count, column}
 use Rattle.model.specs.Table.{Wiring}
 use Rattle.model.specs.State.{State}
@@ -18,6 +18,11 @@ firstLink w p = count (λ i. ltb (getD (w .consumer) i 0) p) (w .m)
 -- the index: a row for each device, and one more, so that the links of p end where those of p + 1 begin
 unfoldable pub firstLinks : Wiring → List ℕ
 firstLinks w = column (firstLink w) (ROWS + 1)
+
+-- what `links::index` gives: the index, or no link at all where there are more than a table may have
+pub record IndexIs (w : Wiring) (first : List ℕ) : Type 0 where
+  pub is : w .m ≤ LINKS → first ≡ firstLinks w
+  pub past : LINKS < w .m → first ≡ replicate (ROWS + 1) 0
 
 -- row q + 1 has how many of the first i links have the consumer q
 pub record Tallied (consumer : List ℕ) (i : ℕ) (first : List ℕ) : Type 0 where

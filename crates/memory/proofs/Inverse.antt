@@ -1,19 +1,18 @@
 -- A memory and its state determine each other. Assumes nothing.
 use mathlib.Core.Path.{_≡_, refl, sym, _∙_, ap}
 use mathlib.Core.List.{List, [], _∷_, _++_}
-use Prim.Native.Nat.{ℕ, zero, suc, _+_, _*_, _-_, _<_, _≤_}
+use Prim.Native.Nat.{ℕ, suc, _+_, _*_, _<_, _≤_}
 use native.Mathlib.Omega.{arith}
-use native.Mathlib.Decide.{decLt}
 use native.Mathlib.Nat.{mul-le-mul-left, mul-suc}
-use lib.ListN.{length, getD, replicate, take, drop, length-append, length-take, length-drop, take-append-drop, List·getD-append, drop-of-length-le}
-use lib.Seq.{drop-cons, drop-drop, take-all, getD-append-add}
+use lib.ListN.{length, getD, replicate, take, drop, length-append, length-take, length-drop, take-append-drop, drop-of-length-le}
+use lib.Seq.{drop-cons, drop-drop, take-all}
 use Rattle.model.specs.Limits.{ROWS, LINKS}
 use Rattle.model.specs.State.{State, atRest, emptyState}
 use Rattle.model.specs.Sound.{Sound}
 use Rattle.model.proofs.SoundTest.{Shaped, sound-shaped}
 use Rattle.memory.specs.Layout.{PARENT, IGNORE, STATUS, DEPTH, CHILDREN, CONSUMER, SUPPLIER, FLAGS, HOLDS, ERROR, LINKED, BYTEPAGES, LINKPAGES, WORDPAGES}
-use Rattle.memory.specs.Layout.{LINKCOUNT, WORDNUMBERS, BYTENUMBERS, CARRIED, LINKSAT, BYTETAIL, WORDTAIL, BYTES, WORDS, BYTE, WORD}
-use Rattle.memory.specs.Layout.{area, page, deviceCol, linkCol, byteTail, wordTail, stateIn, byteNumbers, bytesOf, wordsOf, OneMemory, Cells}
+use Rattle.memory.specs.Layout.{LINKCOUNT, WORDNUMBERS, BYTENUMBERS, CARRIED, LINKSAT, BYTETAIL, WORDTAIL, BYTES, WORDS}
+use Rattle.memory.specs.Layout.{area, page, deviceCol, linkCol, byteTail, wordTail, stateIn, byteNumbers, bytesOf, wordsOf, OneMemory}
 use Rattle.memory.proofs.Pages.{area-length, take-area, area-area, tail-length}
 
 -- ---- a list cut into areas
@@ -203,56 +202,6 @@ state-of {s} h =
 -- every sound state has a memory, one only
 pub sound-memory : {s : State} → Sound s → stateIn (bytesOf s) (wordsOf s) ≡ s
 sound-memory h = state-of (sound-shaped h)
-
--- ---- and the cells of that memory are bytes and words
-cells-cons : {most x : ℕ} {l : List ℕ} → x < most → Cells most l → Cells most (x ∷ l)
-cells-cons {most} {x} {l} h c = record { below = go }
-  where
-    go : (i : ℕ) → getD (x ∷ l) i 0 < most
-    go zero = h
-    go (suc i) = c .below i
-
-cells-append : {most : ℕ} {a b : List ℕ} → Cells most a → Cells most b → Cells most (a ++ b)
-cells-append {most} {a} {b} f g =
-    record {
-      below = λ i.
-          elim (decLt i (length a)) [
-            | yes l ↦ rw (List·getD-append a b 0 i l) (f .below i)
-            | no n ↦ let e : i ≡ length a + (i - length a) = omega arith in rw (e, getD-append-add a b (i - length a) 0) (g .below (i - length a))
-          ];
-    }
-
--- every field of a byte is below 2^8, and every other field below 2^32
-pub record Ranged (s : State) : Type 0 where
-  pub n : s .wiring .n < BYTE
-  pub m : s .wiring .m < WORD
-  pub parent : Cells BYTE (s .wiring .parent)
-  pub ignore : Cells BYTE (s .wiring .ignore)
-  pub consumer : Cells BYTE (s .wiring .consumer)
-  pub supplier : Cells BYTE (s .wiring .supplier)
-  pub flags : Cells BYTE (s .wiring .flags)
-  pub status : Cells BYTE (s .devices .status)
-  pub holds : Cells WORD (s .devices .holds)
-  pub depth : Cells BYTE (s .devices .depth)
-  pub error : Cells WORD (s .devices .error)
-  pub children : Cells BYTE (s .devices .children)
-  pub linked : Cells WORD (s .devices .linked)
-  pub kind : s .callback .kind < BYTE
-  pub asked : s .callback .asked < BYTE
-  pub target : s .callback .target < BYTE
-  pub used : s .carry .used < BYTE
-  pub bytes : Cells BYTE (s .carry .bytes)
-
-pub bytes-ranged : {s : State} → Ranged s → Cells BYTE (bytesOf s)
-unfolding bytesOf byteNumbers
-bytes-ranged {s} r =
-    cells-append (r .parent) (cells-append (r .ignore) (cells-append (r .status) (cells-append (r .depth) (cells-append (r .children)
-    (cells-append (r .consumer) (cells-append (r .supplier) (cells-append (r .flags)
-    (cells-cons (r .n) (cells-cons (r .kind) (cells-cons (r .asked) (cells-cons (r .target) (cells-cons (r .used) (r .bytes)))))))))))))
-
-pub words-ranged : {s : State} → Ranged s → Cells WORD (wordsOf s)
-unfolding wordsOf
-words-ranged {s} r = cells-append (r .holds) (cells-append (r .error) (cells-append (r .linked) (cells-cons (r .m) (record { below = λ i. omega arith }))))
 
 -- the memory of zeros is that of the empty bench
 pub empty-memory : stateIn (replicate BYTES 0) (replicate WORDS 0) ≡ emptyState

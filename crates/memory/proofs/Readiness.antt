@@ -62,7 +62,6 @@ ready-status {s} p v l m h =
       rules = h .rules;
       statuses = column-set (h .statuses) (few-rows (h .rules .order .devices)) p v l m;
       carried = h .carried;
-     
       children = refl;
       target = h .target;
       linked = refl;

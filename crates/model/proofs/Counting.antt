@@ -71,7 +71,9 @@ unfolding count
 count-change f g zero i l same = absurd (omega arith)
 count-change f g (suc n) i l same =
     let c : (i ≡ n) ⊎ (i < n) = eq-or-lt-of-le (omega arith) in
-    ⊎-elim (λ h. let z = count-below f g n (λ k b. same k (λ e. omega arith)) in rw h (omega arith)) (λ (h : i < n). let z = count-change f g n i h same in let y = ap bit (same n (λ e. omega arith)) in omega arith) c
+    ⊎-elim (λ h. let z = count-below f g n (λ k b. same k (λ e. omega arith)) in rw h (omega arith))
+    (λ (h : i < n). let z = count-change f g n i h same in let y = ap bit (same n (λ e. omega arith)) in omega arith)
+    c
 
 -- a tally reads its test at each number only
 pub tally-same : (on on' : ℕ → Bool) (key : ℕ → ℕ) (n q : ℕ) → ((k : ℕ) → on k ≡ on' k) → tally on key n q ≡ tally on' key n q
@@ -114,17 +116,26 @@ module _ (w : Wiring) (status : List ℕ) (p v : ℕ) (h : p < length status) (e
   same-linked = column-same _ _ ROWS (λ q. tally-same _ _ _ (w .m) q (λ k. ap (λ (x : Bool). x and eqb (getD (w .flags) k 0 % 2) 1) (same-power (getD (w .consumer) k 0))))
 
 -- a powered child is counted, and so is a runtime link of a powered consumer
-pub child-counted : (w : Wiring) (status : List ℕ) (k q : ℕ) → k < w .n → getD (w .parent) k 0 ≡ q → (q ≡ NONE → ⊥) → q < ROWS → 2 ≤ getD status k 0 → 1 ≤ getD (childrenOf w status) q 0
+pub child-counted :
+    (w : Wiring) (status : List ℕ) (k q : ℕ) → k < w .n → getD (w .parent) k 0 ≡ q
+    → (q ≡ NONE → ⊥) → q < ROWS → 2 ≤ getD status k 0 → 1 ≤ getD (childrenOf w status) q 0
 unfolding childrenOf childCount isChild
 child-counted w status k q l e ne h u =
-    rw (at-column (childCount w status) ROWS q h, ← e) (tally-has (isChild w status) (λ j. getD (w .parent) j 0) (w .n) k l (and-of _ _ (le-leb _ _ u) (rw (e, ne-eqb q NONE ne))))
+    rw (at-column (childCount w status) ROWS q h, ← e)
+    (tally-has (isChild w status) (λ j. getD (w .parent) j 0) (w .n) k l (and-of _ _ (le-leb _ _ u) (rw (e, ne-eqb q NONE ne))))
 
-pub link-counted : (w : Wiring) (status : List ℕ) (i p q : ℕ) → i < w .m → getD (w .consumer) i 0 ≡ p → getD (w .supplier) i 0 ≡ q → getD (w .flags) i 0 % 2 ≡ 1 → q < ROWS → 2 ≤ getD status p 0 → 1 ≤ getD (linkedOf w status) q 0
+pub link-counted :
+    (w : Wiring) (status : List ℕ) (i p q : ℕ) → i < w .m → getD (w .consumer) i 0 ≡ p → getD (w .supplier) i 0 ≡ q
+    → getD (w .flags) i 0 % 2 ≡ 1 → q < ROWS → 2 ≤ getD status p 0 → 1 ≤ getD (linkedOf w status) q 0
 unfolding linkedOf linkCount isLive
 link-counted w status i p q l c e f h u =
-    rw (at-column (linkCount w status) ROWS q h, ← e) (tally-has (isLive w status) (λ j. getD (w .supplier) j 0) (w .m) i l (and-of _ _ (rw c (le-leb _ _ u)) (eq-eqb _ _ f)))
+    rw (at-column (linkCount w status) ROWS q h, ← e)
+    (tally-has (isLive w status) (λ j. getD (w .supplier) j 0) (w .m) i l (and-of _ _ (rw c (le-leb _ _ u)) (eq-eqb _ _ f)))
 
 -- a change of the status of p changes the child count of its parent alone, by what p counts there
-pub child-change : (w : Wiring) (status : List ℕ) (p v q : ℕ) → p < w .n → childCount w (set status p v) q + bit (isChild w status p and eqb (getD (w .parent) p 0) q) ≡ childCount w status q + bit (isChild w (set status p v) p and eqb (getD (w .parent) p 0) q)
+pub child-change :
+    (w : Wiring) (status : List ℕ) (p v q : ℕ) → p < w .n
+    → childCount w (set status p v) q + bit (isChild w status p and eqb (getD (w .parent) p 0) q)
+    ≡ childCount w status q + bit (isChild w (set status p v) p and eqb (getD (w .parent) p 0) q)
 unfolding childCount tally isChild
 child-change w status p v q l = count-change _ _ (w .n) p l (λ k ne. rw (getD-set-other status p k v 0 ne))

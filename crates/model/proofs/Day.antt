@@ -12,7 +12,8 @@ use Rattle.model.specs.Steps.{idleResult, suspendResult, goOn, resumeRes
 use Rattle.model.specs.Day.{dayTable, Row, row, day, Claim, claims, given, expected, Hold}
 
 pub day-loads : loadOf dayTable .answer ≡ record { number = 0; index = 0 }
-unfolding dayTable loadOf tableAnswer markGood versionGood limitsGood lengthGood badDevice badLink entriesAnswer parentGood endsGood deviceGood linkFits ascends linkGood before first if_then_else_ _and_ _or_ DEVICES LINKS
+unfolding dayTable loadOf tableAnswer markGood versionGood limitsGood lengthGood badDevice badLink entriesAnswer
+    parentGood endsGood deviceGood linkFits ascends linkGood before first if_then_else_ _and_ _or_ DEVICES LINKS
 day-loads = refl
 
 -- ---- "Slips we have seen", and the test program's suspend result -5
@@ -69,5 +70,12 @@ slips =
 
 -- ---- P1 to P14, and the slips
 pub worked : Hold (claims ++ slips)
-unfolding flatMap given expected claims slips dayTable day loadOf tableAnswer markGood versionGood limitsGood lengthGood parentGood endsGood before deviceGood linkFits ascends linkGood badDevice badLink entriesAnswer cell padded wiringIn atRest loaded DEVICES LINKS ROWS if_then_else_ _and_ _or_ any first count tally column isChild isLive childCount linkCount childrenOf linkedOf marksChild marksConsumer belongs sweep wakeMarks inWake lowest kinds allowed fault enable disable get put suspendTest askSuspend idle suspend barred othersBarred askResume wake getWake putIdle running parentDown supplierDown setActive needed setSuspended ignoreChildren idleResult suspendResult goOn resumeResult result request resultStep busy recordStep byteStep run repliesIn
+unfolding flatMap given expected claims slips dayTable day
+    loadOf tableAnswer markGood versionGood limitsGood lengthGood parentGood endsGood before deviceGood linkFits ascends linkGood
+    badDevice badLink entriesAnswer cell padded wiringIn atRest loaded DEVICES LINKS ROWS
+    if_then_else_ _and_ _or_ any first count tally column
+    isChild isLive childCount linkCount childrenOf linkedOf marksChild marksConsumer belongs sweep wakeMarks inWake lowest
+    kinds allowed fault enable disable get put suspendTest askSuspend idle suspend barred othersBarred askResume wake getWake putIdle
+    running parentDown supplierDown setActive needed setSuspended ignoreChildren
+    idleResult suspendResult goOn resumeResult result request resultStep busy recordStep byteStep run repliesIn
 worked = refl

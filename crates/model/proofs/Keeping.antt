@@ -49,7 +49,8 @@ module _ (s : State) (k : KeptIn s) where
       record {
         rests =
             λ a q h d.
-            at-set (λ a x. 1 ≤ x → (q : ℕ) → Needs (s .wiring) a q → 2 ≤ getD (set (s .devices .status) p v) q 0) (s .devices .status) p v (status-row p hp)
+            at-set (λ a x. 1 ≤ x → (q : ℕ) → Needs (s .wiring) a q → 2 ≤ getD (set (s .devices .status) p v) q 0) (s .devices .status) p v
+            (status-row p hp)
             (λ h q d. rw (getD-set-other (s .devices .status) p q v 0 (apart (k .table .order) hp d)) (up h q d))
             (λ a ne h q d. at-set (λ q x. Needs (s .wiring) a q → 2 ≤ x) (s .devices .status) p v (status-row p hp) (λ d. here a ne h d) (λ q ne d. k .supply .rests a q h d) q d)
             a h q d;
@@ -60,16 +61,56 @@ module _ (s : State) (k : KeptIn s) where
 
   -- ---- one law for each setter
   pub kept-status : (p v : ℕ) → p < s .wiring .n → v ≤ SUSPENDING → (RESUMING ≤ v → Fed s p) → (v < ACTIVE → ACTIVE ≤ statusAt s p → Free s p) → KeptIn (withStatus s p v)
-  kept-status p v hp hv up off = record { table = k .table; statuses = column-set (k .statuses) room p v hp hv; holds = k .holds; depths = k .depths; errors = k .errors; children = refl; linked = refl; supply = supply-set p v hp up off }
+  kept-status p v hp hv up off =
+      record {
+        table = k .table;
+        statuses = column-set (k .statuses) room p v hp hv;
+        holds = k .holds;
+        depths = k .depths;
+        errors = k .errors;
+        children = refl;
+        linked = refl;
+        supply = supply-set p v hp up off;
+      }
 
   pub kept-holds : (p v : ℕ) → p < s .wiring .n → v ≤ MAXHOLDS → KeptIn (withHolds s p v)
-  kept-holds p v hp hv = record { table = k .table; statuses = k .statuses; holds = column-set (k .holds) room p v hp hv; depths = k .depths; errors = k .errors; children = k .children; linked = k .linked; supply = k .supply }
+  kept-holds p v hp hv =
+      record {
+        table = k .table;
+        statuses = k .statuses;
+        holds = column-set (k .holds) room p v hp hv;
+        depths = k .depths;
+        errors = k .errors;
+        children = k .children;
+        linked = k .linked;
+        supply = k .supply;
+      }
 
   pub kept-depth : (p v : ℕ) → p < s .wiring .n → v ≤ MAXDEPTH → KeptIn (withDepth s p v)
-  kept-depth p v hp hv = record { table = k .table; statuses = k .statuses; holds = k .holds; depths = column-set (k .depths) room p v hp hv; errors = k .errors; children = k .children; linked = k .linked; supply = k .supply }
+  kept-depth p v hp hv =
+      record {
+        table = k .table;
+        statuses = k .statuses;
+        holds = k .holds;
+        depths = column-set (k .depths) room p v hp hv;
+        errors = k .errors;
+        children = k .children;
+        linked = k .linked;
+        supply = k .supply;
+      }
 
   pub kept-error : (p v : ℕ) → p < s .wiring .n → v ≤ MAXERROR → KeptIn (withError s p v)
-  kept-error p v hp hv = record { table = k .table; statuses = k .statuses; holds = k .holds; depths = k .depths; errors = column-set (k .errors) room p v hp hv; children = k .children; linked = k .linked; supply = k .supply }
+  kept-error p v hp hv =
+      record {
+        table = k .table;
+        statuses = k .statuses;
+        holds = k .holds;
+        depths = k .depths;
+        errors = column-set (k .errors) room p v hp hv;
+        children = k .children;
+        linked = k .linked;
+        supply = k .supply;
+      }
 
   -- the counts do not read who ignores whom
   pub kept-ignore : (p v : ℕ) → p < s .wiring .n → v ≤ 1 → Supply (withIgnore s p v .wiring) (s .devices .status) → KeptIn (withIgnore s p v)

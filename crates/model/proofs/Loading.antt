@@ -202,7 +202,11 @@ module _ (w : Wiring) (r : Ordered w) where
   ordered i (suc j) l h =
       let n : before (getD (w .consumer) j 0) (getD (w .supplier) j 0) (getD (w .consumer) (suc j) 0) (getD (w .supplier) (suc j) 0) ≡ true = rw add-one at (r .ascending j (omega arith)) in
       let c : (i ≡ j) ⊎ (i < j) = eq-or-lt-of-le (omega arith) in
-      ⊎-elim (λ e. rw e n) (λ (b : i < j). before-next (getD (w .consumer) i 0) (getD (w .consumer) j 0) (getD (w .consumer) (suc j) 0) (getD (w .supplier) i 0) (getD (w .supplier) j 0) (getD (w .supplier) (suc j) 0) (ordered i j b (omega arith)) n) c
+      ⊎-elim (λ e. rw e n)
+      (λ (b : i < j).
+      before-next (getD (w .consumer) i 0) (getD (w .consumer) j 0) (getD (w .consumer) (suc j) 0)
+      (getD (w .supplier) i 0) (getD (w .supplier) j 0) (getD (w .supplier) (suc j) 0) (ordered i j b (omega arith)) n)
+      c
 
   pub pairs-differ : (i j : ℕ) → i < j → j < w .m → getD (w .consumer) i 0 ≡ getD (w .consumer) j 0 → getD (w .supplier) i 0 ≡ getD (w .supplier) j 0 → ⊥
   pairs-differ i j l h = before-differs (getD (w .consumer) i 0) (getD (w .consumer) j 0) (getD (w .supplier) i 0) (getD (w .supplier) j 0) (ordered i j l h)

@@ -8,10 +8,6 @@ use Rattle.model.specs.Logic.{all, _and_}
 use Rattle.model.proofs.Basics.{never}
 use Rattle.model.proofs.Logic.{all-iff}
 
--- the end: every number below k passed
-pub all-passed : (f : ℕ → Bool) (n k : ℕ) → n ≤ k → ((j : ℕ) → j < k → f j ≡ true) → true ≡ all f n
-all-passed f n k l h = sym (all-iff f n .1 (λ j b. h j (omega arith)))
-
 -- one failure
 pub all-failed : (f : ℕ → Bool) (n k : ℕ) → k < n → f k ≡ false → false ≡ all f n
 all-failed f n k l e = go (all f n) refl

@@ -50,7 +50,14 @@ module _ (s : State) (h : Sound s) (p : Piece) where
   answer-plain = rw (sound-tested h)
 
   -- the bytes of the replies stand at the front of the buffer
-  pub piece-taken : eqb (pieceAnswer (s .carry .used) p) 0 ≡ true → feedOf s p ≡ record { number = 0; replies = length (run s (p .bytes) .log); state = run s (p .bytes) .state; buffer = over (repliesIn (run s (p .bytes) .log)) (p .buffer) }
+  pub piece-taken :
+      eqb (pieceAnswer (s .carry .used) p) 0 ≡ true
+      → feedOf s p ≡ record {
+        number = 0;
+        replies = length (run s (p .bytes) .log);
+        state = run s (p .bytes) .state;
+        buffer = over (repliesIn (run s (p .bytes) .log)) (p .buffer);
+      }
   unfolding feedOf if_then_else_
   piece-taken e = rw (answer-plain, e)
 
@@ -63,10 +70,14 @@ module _ (s : State) (h : Sound s) (p : Piece) where
   joined-taken ps e j =
       let w = rest-waits s (p .bytes) h in
       let n = eqb-true (pieceAnswer (s .carry .used) p) 0 e in
-      let f = run-joined s (p .bytes) (takenBytes ((s .carry .used + length (p .bytes)) % 4) ps) in
+      let more = takenBytes ((s .carry .used + length (p .bytes)) % 4) ps in
+      let f = run-joined s (p .bytes) more in
+      let g = run s (p .bytes) in
       record {
         refused = rw (piece-taken e, e, n) (ap (λ (l : List ℕ). 0 ∷ l) (rw w at (j .refused)));
-        replies = rw (piece-taken e, e, f .1, front, log-joined (run s (p .bytes) .log) (run (run s (p .bytes) .state) (takenBytes ((s .carry .used + length (p .bytes)) % 4) ps) .log)) (ap (λ (l : List ℕ). repliesIn (run s (p .bytes) .log) ++ l) (rw w at (j .replies)));
+        replies =
+            rw (piece-taken e, e, f .1, front, log-joined (g .log) (run (g .state) more .log))
+            (ap (λ (l : List ℕ). repliesIn (g .log) ++ l) (rw w at (j .replies)));
         state = rw (piece-taken e, e, f .0) (rw w at (j .state));
       }
     where

@@ -38,17 +38,26 @@ module _ (parent : List ℕ) where
   unfolding climb
   climb-enough zero b p r ha hb = let e : p ≡ 0 = omega arith in sym (climb-none b p r (omega arith))
   climb-enough (suc a) zero p r ha hb = let e : p ≡ 0 = omega arith in climb-none (suc a) p r (omega arith)
-  climb-enough (suc a) (suc b) p r ha hb = if-same _ _ _ (λ e. let z = r p (omega arith) (eqb-false _ _ e) in ap suc (climb-enough a b (getD parent p 0) (λ q l. r q (omega arith)) (omega arith) (omega arith)))
+  climb-enough (suc a) (suc b) p r ha hb =
+      if-same _ _ _
+      (λ e. let z = r p (omega arith) (eqb-false _ _ e) in ap suc (climb-enough a b (getD parent p 0) (λ q l. r q (omega arith)) (omega arith) (omega arith)))
 
   pub climb-one : (p : ℕ) → Rising parent p → getD parent p 0 < p → p ≤ NONE → climb parent p p ≡ suc (climb parent (getD parent p 0) (getD parent p 0))
   unfolding climb if_then_else_
   climb-one zero r l h = absurd (omega arith)
-  climb-one (suc p) r l h = rw (ne-eqb (getD parent (suc p) 0) NONE (λ e. omega arith)) (ap suc (climb-enough p (getD parent (suc p) 0) (getD parent (suc p) 0) (λ q b. r q (omega arith)) (omega arith) (omega arith)))
+  climb-one (suc p) r l h =
+      let up = getD parent (suc p) 0 in
+      rw (ne-eqb up NONE (λ e. omega arith)) (ap suc (climb-enough p up up (λ q b. r q (omega arith)) (omega arith) (omega arith)))
 
 -- no parent: none above; else one more than above the parent
-pub above-step : (s : State) → Ordered (s .wiring) → (p : ℕ) → p < s .wiring .n → parentsAbove s p ≡ (if eqb (getD (s .wiring .parent) p 0) NONE then 0 else suc (parentsAbove s (getD (s .wiring .parent) p 0)))
+pub above-step :
+    (s : State) → Ordered (s .wiring) → (p : ℕ) → p < s .wiring .n
+    → parentsAbove s p ≡ (if eqb (getD (s .wiring .parent) p 0) NONE then 0 else suc (parentsAbove s (getD (s .wiring .parent) p 0)))
 unfolding parentsAbove climb if_then_else_
 above-step s r zero h = rw (eq-eqb _ _ (no-parent (s .wiring .parent) 0 (λ q l. r .parents q (omega arith)) (omega arith)))
 above-step s r (suc p) h =
     let q = getD (s .wiring .parent) (suc p) 0 in
-    if-same _ _ _ (λ e. let z = r .parents (suc p) h (eqb-false _ _ e) in ap suc (climb-enough (s .wiring .parent) p q q (λ k l. r .parents k (omega arith)) (omega arith) (omega arith)))
+    if-same _ _ _
+    (λ e.
+    let z = r .parents (suc p) h (eqb-false _ _ e) in
+    ap suc (climb-enough (s .wiring .parent) p q q (λ k l. r .parents k (omega arith)) (omega arith) (omega arith)))

@@ -26,15 +26,18 @@ abbrev Clear : State → ℕ → Type 0
 Clear s t = (q : ℕ) → InWake (s .wiring) (s .devices .status) t q → (errorAt s q ≡ 0) × (depthAt s q ≡ 0)
 
 -- the lowest member of t's wake set turns resuming
-askResume-good : (s : State) → KeptIn s → Carried (s .carry) → ((q : ℕ) → Steady (statusAt s q)) → (t : ℕ) → t < s .wiring .n → lowest s t < s .wiring .n → Clear s t → Good (askResume s t)
+askResume-good :
+    (s : State) → KeptIn s → Carried (s .carry) → ((q : ℕ) → Steady (statusAt s q))
+    → (t : ℕ) → t < s .wiring .n → lowest s t < s .wiring .n → Clear s t → Good (askResume s t)
 unfolding askResume
 askResume-good s k c st t l some clear =
     let m = first-lowest s (k .table .order) t l some in
     let x = lowest s t in
     let off = member-asleep (m .member) in
     let row = status-row s k x some in
-    let back : (q : ℕ) → Sleeping (set (s .devices .status) x RESUMING) q → Sleeping (s .devices .status) q = at-set (λ q v. v < 2 → Sleeping (s .devices .status) q) (s .devices .status) x RESUMING row (λ z. off) (λ q ne z. z) in
-    let into : (q : ℕ) → Sleeping (s .devices .status) q → Sleeping (set (s .devices .status) x RESUMING) q = at-set (λ q v. Sleeping (s .devices .status) q → v < 2) (s .devices .status) x RESUMING row (λ z. omega arith) (λ q ne z. z) in
+    let old = s .devices .status in
+    let back : (q : ℕ) → Sleeping (set old x RESUMING) q → Sleeping old q = at-set (λ q v. v < 2 → Sleeping old q) old x RESUMING row (λ z. off) (λ q ne z. z) in
+    let into : (q : ℕ) → Sleeping old q → Sleeping (set old x RESUMING) q = at-set (λ q v. Sleeping old q → v < 2) old x RESUMING row (λ z. omega arith) (λ q ne z. z) in
     record {
       kept = kept-status s k x RESUMING some (omega arith) (λ z. lowest-rests (k .table .order) l m) (λ z y. absurd (omega arith));
       carried = c;
@@ -86,7 +89,9 @@ module _ {s : State} (h : Sound s) (v : ℕ) where
       let p = s .callback .asked in
       by-if Good _ _ _
       (λ e. by-if Good _ _ _
-      (λ f. askResume-good (closed (withStatus s p ACTIVE)) (woken .kept) (h .carried) (turned h v (o .steady) low ACTIVE (omega arith)) (s .callback .target) (o .target) (ltb-true _ _ f) (λ q i. o .clear q (fewer back i)))
+      (λ f.
+      askResume-good (closed (withStatus s p ACTIVE)) (woken .kept) (h .carried) (turned h v (o .steady) low ACTIVE (omega arith))
+      (s .callback .target) (o .target) (ltb-true _ _ f) (λ q i. o .clear q (fewer back i)))
       (λ f. woken))
       (λ e. quiet _ (kept-error (closed (withStatus s p SUSPENDED)) (asleep .kept) p _ low (small e)) (h .carried) (none-open (asleep .callback) refl))
     where
@@ -94,10 +99,22 @@ module _ {s : State} (h : Sound s) (v : ℕ) where
       low = member-below (h .kept .table .order) (o .target) (o .asked .member)
 
       woken : Sound (closed (withStatus s (s .callback .asked) ACTIVE))
-      woken = closing (withStatus s (s .callback .asked) ACTIVE) (kept-status s (h .kept) (s .callback .asked) ACTIVE low (omega arith) (λ z q. h .kept .supply .rests (s .callback .asked) q (let y = o .status in omega arith)) (λ z. absurd (omega arith))) (h .carried) (turned h v (o .steady) low ACTIVE (omega arith))
+      woken =
+          let p = s .callback .asked in
+          closing (withStatus s p ACTIVE)
+          (kept-status s (h .kept) p ACTIVE low (omega arith) (λ z q. h .kept .supply .rests p q (let y = o .status in omega arith))
+          (λ z. absurd (omega arith)))
+          (h .carried) (turned h v (o .steady) low ACTIVE (omega arith))
 
       asleep : Sound (closed (withStatus s (s .callback .asked) SUSPENDED))
-      asleep = closing (withStatus s (s .callback .asked) SUSPENDED) (kept-status s (h .kept) (s .callback .asked) SUSPENDED low (omega arith) (λ z. absurd (omega arith)) (λ z y. let x = o .status in absurd (omega arith))) (h .carried) (turned h v (o .steady) low SUSPENDED (omega arith))
+      asleep =
+          let p = s .callback .asked in
+          closing (withStatus s p SUSPENDED)
+          (kept-status s (h .kept) p SUSPENDED low (omega arith) (λ z. absurd (omega arith)) (λ z y. let x = o .status in absurd (omega arith)))
+          (h .carried) (turned h v (o .steady) low SUSPENDED (omega arith))
 
       back : (q : ℕ) → Sleeping (set (s .devices .status) (s .callback .asked) ACTIVE) q → Sleeping (s .devices .status) q
-      back = at-set (λ q x. x < 2 → Sleeping (s .devices .status) q) (s .devices .status) (s .callback .asked) ACTIVE (status-row s (h .kept) (s .callback .asked) low) (λ z. absurd (omega arith)) (λ q ne z. z)
+      back =
+          let p = s .callback .asked in
+          at-set (λ q x. x < 2 → Sleeping (s .devices .status) q) (s .devices .status) p ACTIVE (status-row s (h .kept) p low)
+          (λ z. absurd (omega arith)) (λ q ne z. z)

@@ -40,7 +40,13 @@ nothing-carried = record { few = omega arith; long = refl; unused = zeros }
 one-more : (c : Carry) (b : ℕ) → c .used < 3 → Carried c → Carried (record { bytes = set (c .bytes) (c .used) b; used = c .used + 1 })
 one-more c b h f =
     let l = f .long in
-    record { few = omega arith; long = length-set (c .bytes) (c .used) b ∙ l; unused = at-set (λ q x. c .used + 1 ≤ q → x ≡ 0) (c .bytes) (c .used) b (omega arith) (λ z. absurd (omega arith)) (λ q ne z. f .unused q (omega arith)) }
+    record {
+      few = omega arith;
+      long = length-set (c .bytes) (c .used) b ∙ l;
+      unused =
+          at-set (λ q x. c .used + 1 ≤ q → x ≡ 0) (c .bytes) (c .used) b (omega arith) (λ z. absurd (omega arith))
+          (λ q ne z. f .unused q (omega arith));
+    }
 
 waits-none : {s : State} → Sound s → Sound (noneWait s)
 waits-none h = sound-carry h (replicate 3 0) 0 nothing-carried
@@ -71,7 +77,9 @@ byte-count {s} h b =
 run-count : (s : State) (bs : List ℕ) → Sound s → 4 * length (run s bs .log) + run s bs .state .carry .used ≡ s .carry .used + length bs
 unfolding run
 run-count s [] h = omega arith
-run-count s (b ∷ bs) h = rw (length-append (byteStep s b .log) (run (byteStep s b .state) bs .log)) (omega (arith, run-count (byteStep s b .state) bs (byte-sound h b), byte-count h b))
+run-count s (b ∷ bs) h =
+    let f = byteStep s b in
+    rw (length-append (f .log) (run (f .state) bs .log)) (omega (arith, run-count (f .state) bs (byte-sound h b), byte-count h b))
 
 -- c carried bytes and p new ones give (c + p) / 4 replies, and the rest waits
 pub replies-many : (s : State) (bs : List ℕ) → Sound s → length (run s bs .log) ≡ (s .carry .used + length bs) / 4
@@ -159,15 +167,26 @@ module _ {s : State} (h : Sound s) (p : ℕ) (l : p < s .wiring .n) where
 
   moves-getWake : Moves s p true false (getWake s p)
   unfolding getWake effective _and_
-  moves-getWake = by-if (Moves s p true false) _ _ _ (λ e. idle-reply p true false _ refl refl) (λ e. let t = withHolds s p (holdsAt s p + 1) in moved p row _ (wake-counts t p) _ true false (omega arith) (on-wake (Same t) (same-stable t) refl p))
+  moves-getWake =
+      by-if (Moves s p true false) _ _ _ (λ e. idle-reply p true false _ refl refl)
+      (λ e.
+      let t = withHolds s p (holdsAt s p + 1) in
+      moved p row _ (wake-counts t p) _ true false (omega arith) (on-wake (Same t) (same-stable t) refl p))
 
   moves-put : Moves s p false true (put s p)
   unfolding put effective _and_
-  moves-put = by-if (Moves s p false true) _ _ _ (λ e. idle-reply p false true _ refl refl) (λ e. let z = eqb-false (holdsAt s p) 0 e in moved p row _ refl _ false true (omega arith) refl)
+  moves-put =
+      by-if (Moves s p false true) _ _ _ (λ e. idle-reply p false true _ refl refl)
+      (λ e. let z = eqb-false (holdsAt s p) 0 e in moved p row _ refl _ false true (omega arith) refl)
 
   moves-putIdle : Moves s p false true (putIdle s p)
   unfolding putIdle effective _and_
-  moves-putIdle = by-if (Moves s p false true) _ _ _ (λ e. idle-reply p false true _ refl refl) (λ e. let z = eqb-false (holdsAt s p) 0 e in let t = withHolds s p (holdsAt s p - 1) in moved p row _ (idle-counts t p) _ false true (omega arith) (on-idle (Same t) (same-stable t) refl p))
+  moves-putIdle =
+      by-if (Moves s p false true) _ _ _ (λ e. idle-reply p false true _ refl refl)
+      (λ e.
+      let z = eqb-false (holdsAt s p) 0 e in
+      let t = withHolds s p (holdsAt s p - 1) in
+      moved p row _ (idle-counts t p) _ false true (omega arith) (on-idle (Same t) (same-stable t) refl p))
 
   -- a kind that is none of 3 to 6
   others : (kind : ℕ) → kind < 3 ⊎ 7 ≤ kind → (d : Done) → Same s (d .state) → Moves s p (isGet kind) (isPut kind) d
@@ -191,7 +210,10 @@ moves-record {s} h r =
       requests =
           λ f ne o.
           let l = f .known in
-          by-kind (λ kind. Moves s p (isGet kind) (isPut kind)) (but-holds (Same s) (same-stable s) refl p (r .value) _ (others h p l) (moves-get h p l) (moves-getWake h p l) (moves-put h p l) (moves-putIdle h p l)) (r .kind) (f .low) (f .high) ne (f .fits);
+          by-kind (λ kind. Moves s p (isGet kind) (isPut kind))
+          (but-holds (Same s) (same-stable s) refl p (r .value) _ (others h p l) (moves-get h p l) (moves-getWake h p l) (moves-put h p l)
+          (moves-putIdle h p l))
+          (r .kind) (f .low) (f .high) ne (f .fits);
     })
 
 -- ---- holds over a run: holds and counted puts are the holds at the start and counted gets
@@ -212,4 +234,5 @@ holds-run s [] q h = refl
 holds-run s (b ∷ bs) q h =
     let f = byteStep s b in
     let g = run (byteStep s b .state) bs in
-    rw (counted-joined isPut q (f .log) (g .log), counted-joined isGet q (f .log) (g .log)) (omega (arith, holds-run (byteStep s b .state) bs q (byte-sound h b), holds-byte h b q))
+    rw (counted-joined isPut q (f .log) (g .log), counted-joined isGet q (f .log) (g .log))
+    (omega (arith, holds-run (byteStep s b .state) bs q (byte-sound h b), holds-byte h b q))

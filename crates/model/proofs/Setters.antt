@@ -64,7 +64,9 @@ module _ (P : State → Type 0) (c : Stable P) where
     on-disable = by-if On _ _ _ (λ e. h) (λ e. c .depth _ _ h)
 
     -- every kind but the gets and puts keeps it
-    pub but-holds : (v : ℕ) (Q : ℕ → Done → Type 0) → ((kind : ℕ) → kind < 3 ⊎ 7 ≤ kind → (d : Done) → On d → Q kind d) → Q 3 (get s p) → Q 4 (getWake s p) → Q 5 (put s p) → Q 6 (putIdle s p) → Kinds Q s p v
+    pub but-holds :
+        (v : ℕ) (Q : ℕ → Done → Type 0) → ((kind : ℕ) → kind < 3 ⊎ 7 ≤ kind → (d : Done) → On d → Q kind d)
+        → Q 3 (get s p) → Q 4 (getWake s p) → Q 5 (put s p) → Q 6 (putIdle s p) → Kinds Q s p v
     but-holds v Q f g gw q qi =
         record {
           enables = f 1 (inl (omega arith)) _ on-enable;
@@ -99,10 +101,21 @@ module _ (P : State → Type 0) (c : Stable P) where
     kinds-keep : (p v : ℕ) → Kinds (λ kind. On) s p v
     unfolding get getWake put putIdle
     kinds-keep p v =
-        but-holds h p v (λ kind. On) (λ kind z d g. g) (by-if On _ _ _ (λ e. h) (λ e. holds s _ _ h)) (by-if On _ _ _ (λ e. h) (λ e. on-wake (holds s _ _ h) p)) (by-if On _ _ _ (λ e. h) (λ e. holds s _ _ h)) (by-if On _ _ _ (λ e. h) (λ e. on-idle (holds s _ _ h) p))
+        but-holds h p v (λ kind. On) (λ kind z d g. g)
+        (by-if On _ _ _ (λ e. h) (λ e. holds s _ _ h))
+        (by-if On _ _ _ (λ e. h) (λ e. on-wake (holds s _ _ h) p))
+        (by-if On _ _ _ (λ e. h) (λ e. holds s _ _ h))
+        (by-if On _ _ _ (λ e. h) (λ e. on-idle (holds s _ _ h) p))
 
     pub step-keeps : (r : Rec) → P (recordStep s r .state)
-    step-keeps r = by-record On (record { refuses = λ number. h; results = λ k a o q. on-result h (r .device) (r .value); busy = h; requests = λ f ne o. by-kind (λ kind. On) (kinds-keep (r .device) (r .value)) (r .kind) (f .low) (f .high) ne (f .fits) })
+    step-keeps r =
+        by-record On
+        (record {
+          refuses = λ number. h;
+          results = λ k a o q. on-result h (r .device) (r .value);
+          busy = h;
+          requests = λ f ne o. by-kind (λ kind. On) (kinds-keep (r .device) (r .value)) (r .kind) (f .low) (f .high) ne (f .fits);
+        })
 
 -- no record touches the carried bytes
 pub carry-kept : (s : State) (r : Rec) → recordStep s r .state .carry ≡ s .carry

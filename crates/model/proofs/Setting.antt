@@ -29,14 +29,21 @@ module _ {s : State} (h : Sound s) (o : s .callback .kind ≡ 0) (p : ℕ) (l : 
   still : (v : ℕ) → Steady v → NoneOpen (s .callback) (set (s .devices .status) p v)
   still v z =
       let n = none-open (h .callback) o in
-      record { kind = n .kind; asked = n .asked; target = n .target; steady = at-set (λ q x. Steady x) (s .devices .status) p v (status-row s (h .kept) p l) z (λ q ne. steady q) }
+      record {
+        kind = n .kind;
+        asked = n .asked;
+        target = n .target;
+        steady = at-set (λ q x. Steady x) (s .devices .status) p v (status-row s (h .kept) p l) z (λ q ne. steady q);
+      }
 
   pub setActive-good : Good (setActive s p)
   unfolding setActive parentDown supplierDown
   setActive-good =
       by-if Good _ _ _ (λ e. h)
       (λ e. by-if Good _ _ _ (λ d. h)
-      (λ d. quiet _ (kept-error (withStatus s p ACTIVE) (kept-status s (h .kept) p ACTIVE l (omega arith) (λ z. fed d) (λ z. absurd (omega arith))) p 0 l (omega arith)) (h .carried) (still ACTIVE (omega arith))))
+      (λ d.
+      let k = kept-status s (h .kept) p ACTIVE l (omega arith) (λ z. fed d) (λ z. absurd (omega arith)) in
+      quiet _ (kept-error (withStatus s p ACTIVE) k p 0 l (omega arith)) (h .carried) (still ACTIVE (omega arith))))
     where
       fed : parentDown s p or supplierDown s p ≡ false → Fed s p
       fed d q (child e ne ig) = let f = simp tests at d in rw (← e) (le-of-eq (sym (f .0 (rw e ne) (rw e ig))))
@@ -47,7 +54,10 @@ module _ {s : State} (h : Sound s) (o : s .callback .kind ≡ 0) (p : ℕ) (l : 
   setSuspended-good =
       by-if Good _ _ _ (λ e. h)
       (λ e. by-if Good _ _ _ (λ d. h)
-      (λ d. quiet _ (kept-error (withStatus s p SUSPENDED) (kept-status s (h .kept) p SUSPENDED l (omega arith) (λ z. absurd (omega arith)) (λ z y. alone-free s (h .kept) p l (λ r ne. steady r) (alone d))) p 0 l (omega arith)) (h .carried) (still SUSPENDED (omega arith))))
+      (λ d.
+      let free = alone-free s (h .kept) p l (λ r ne. steady r) (alone d) in
+      let k = kept-status s (h .kept) p SUSPENDED l (omega arith) (λ z. absurd (omega arith)) (λ z y. free) in
+      quiet _ (kept-error (withStatus s p SUSPENDED) k p 0 l (omega arith)) (h .carried) (still SUSPENDED (omega arith))))
     where
       alone : needed s p ≡ false → Alone s p
       alone d = let f = or-fails _ _ .0 d in record { links = omega (arith, f .1, ltb-false); children = childless s p (f .0) }

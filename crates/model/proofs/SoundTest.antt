@@ -102,8 +102,13 @@ module _ (s : State) (g : Shaped s) where
         let o = t .order in
         let hn = few-rows (o .devices) in
         let hm = o .links in
+        let pa = column-iff _ _ _ _ hn (g .parent) .1 (t .parentRows) in
+        let ig = column-iff _ _ _ _ hn (g .ignore) .1 (t .ignoreRows) in
+        let co = column-iff _ _ _ _ hm (g .consumer) .1 (t .consumerRows) in
+        let su = column-iff _ _ _ _ hm (g .supplier) .1 (t .supplierRows) in
+        let fl = column-iff _ _ _ _ hm (g .flags) .1 (t .flagRows) in
         simp tests
-        (t .some, (o .devices, (o .links, (column-iff _ _ _ _ hn (g .parent) .1 (t .parentRows), (column-iff _ _ _ _ hn (g .ignore) .1 (t .ignoreRows), (column-iff _ _ _ _ hm (g .consumer) .1 (t .consumerRows), (column-iff _ _ _ _ hm (g .supplier) .1 (t .supplierRows), (column-iff _ _ _ _ hm (g .flags) .1 (t .flagRows), (o .parents, (λ i l. (o .consumers i l, o .suppliers i l), o .ascending)))))))))),
+        (t .some, (o .devices, (o .links, (pa, (ig, (co, (su, (fl, (o .parents, (λ i l. (o .consumers i l, o .suppliers i l), o .ascending)))))))))),
   )
 
 supply-iff : (w : Wiring) (status : List ℕ) → ((p : ℕ) → 1 ≤ getD status p 0 → p < w .n) → (supplyTest w status ≡ true) ↔ Supply w status
@@ -111,8 +116,10 @@ unfolding supplyTest parentSupplies linkSupplies
 supply-iff w status row = (
   λ e. record { rests = go e },
   λ u.
-      simp tests
-      (λ p l on ne ig. u .rests p (getD (w .parent) p 0) (omega arith) (child refl ne ig), λ i l on r. u .rests (getD (w .consumer) i 0) (getD (w .supplier) i 0) (omega arith) (link i l refl refl r)),
+      simp tests (
+        λ p l on ne ig. u .rests p (getD (w .parent) p 0) (omega arith) (child refl ne ig),
+        λ i l on r. u .rests (getD (w .consumer) i 0) (getD (w .supplier) i 0) (omega arith) (link i l refl refl r),
+      ),
 )
   where
     go : supplyTest w status ≡ true → (p q : ℕ) → 1 ≤ getD status p 0 → Needs w p q → 2 ≤ getD status q 0
@@ -149,8 +156,14 @@ module _ (s : State) (g : Shaped s) where
         },
     λ k.
         let hn = few-rows (k .table .order .devices) in
-        simp tests
-        (table-iff s g .1 (k .table), (column-iff _ _ _ _ hn (g .status) .1 (k .statuses), (column-iff _ _ _ _ hn (g .holds) .1 (k .holds), (column-iff _ _ _ _ hn (g .depth) .1 (k .depths), (column-iff _ _ _ _ hn (g .error) .1 (k .errors), (same-iff _ _ (g .children) (long-children _ _) .1 (k .children), (same-iff _ _ (g .linked) (long-linked _ _) .1 (k .linked), supply-iff (s .wiring) (s .devices .status) (used (s .wiring .n) (s .devices .status) (k .statuses)) .1 (k .supply)))))))),
+        let st = column-iff _ _ _ _ hn (g .status) .1 (k .statuses) in
+        let ho = column-iff _ _ _ _ hn (g .holds) .1 (k .holds) in
+        let de = column-iff _ _ _ _ hn (g .depth) .1 (k .depths) in
+        let er = column-iff _ _ _ _ hn (g .error) .1 (k .errors) in
+        let ch = same-iff _ _ (g .children) (long-children _ _) .1 (k .children) in
+        let li = same-iff _ _ (g .linked) (long-linked _ _) .1 (k .linked) in
+        let su = supply-iff (s .wiring) (s .devices .status) (used (s .wiring .n) (s .devices .status) (k .statuses)) .1 (k .supply) in
+        simp tests (table-iff s g .1 (k .table), (st, (ho, (de, (er, (ch, (li, su))))))),
   )
 
 carried-iff : (c : Carry) → length (c .bytes) ≡ 3 → (carriedTest c ≡ true) ↔ Carried c
@@ -196,7 +209,11 @@ module _ (s : State) (k : KeptIn s) where
   test-callback : callbackTest s ≡ true → CallbackRules s
   unfolding callbackTest noneTest suspendOpenTest resumeOpenTest idleOpenTest
   test-callback =
-      by-if (λ x. x ≡ true → CallbackRules s) _ _ _ (λ e t. let (a, f) = simp tests at t in let (b, c) = f in noneOpen (record { kind = eqb-true _ _ e; asked = a; target = b; steady = all-steady-iff .0 c }))
+      by-if (λ x. x ≡ true → CallbackRules s) _ _ _
+      (λ e t.
+      let (a, f) = simp tests at t in
+      let (b, c) = f in
+      noneOpen (record { kind = eqb-true _ _ e; asked = a; target = b; steady = all-steady-iff .0 c }))
       (λ e. by-if (λ x. x ≡ true → CallbackRules s) _ _ _
       (λ e t.
       let (a, f) = simp tests at t in
@@ -210,7 +227,16 @@ module _ (s : State) (k : KeptIn s) where
       let (b, g) = f in
       let (c, h) = g in
       let (d, i) = h in
-      resumeOpen (record { kind = eqb-true _ _ e; target = a; status = c; steady = others-steady-iff (s .callback .asked) .0 d; asked = lowest-iff (s .callback .target) (s .callback .asked) a (row-used s k (s .devices .status) (k .statuses) (s .callback .asked) (omega arith)) .0 b; clear = clear-iff (s .callback .target) a .0 i }))
+      let row = row-used s k (s .devices .status) (k .statuses) (s .callback .asked) (omega arith) in
+      resumeOpen
+      (record {
+        kind = eqb-true _ _ e;
+        target = a;
+        status = c;
+        steady = others-steady-iff (s .callback .asked) .0 d;
+        asked = lowest-iff (s .callback .target) (s .callback .asked) a row .0 b;
+        clear = clear-iff (s .callback .target) a .0 i;
+      }))
       (λ e. by-if (λ x. x ≡ true → CallbackRules s) _ _ _
       (λ e t.
       let (a, f) = simp tests at t in
@@ -230,8 +256,12 @@ module _ (s : State) (k : KeptIn s) where
   callback-test (resumeOpen o) =
       let z = o .kind in
       let y = o .status in
+      let row = row-used s k (s .devices .status) (k .statuses) (s .callback .asked) (omega arith) in
+      let least = lowest-iff (s .callback .target) (s .callback .asked) (o .target) row .1 (o .asked) in
+      let others = others-steady-iff (s .callback .asked) .1 (o .steady) in
+      let clear = clear-iff (s .callback .target) (o .target) .1 (o .clear) in
       rw (ne-eqb (s .callback .kind) 0 (λ e. omega arith), ne-eqb (s .callback .kind) 1 (λ e. omega arith), eq-eqb (s .callback .kind) 2 z)
-      (simp tests (o .target, (lowest-iff (s .callback .target) (s .callback .asked) (o .target) (row-used s k (s .devices .status) (k .statuses) (s .callback .asked) (omega arith)) .1 (o .asked), (o .status, (others-steady-iff (s .callback .asked) .1 (o .steady), clear-iff (s .callback .target) (o .target) .1 (o .clear))))))
+      (simp tests (o .target, (least, (o .status, (others, clear)))))
   callback-test (idleOpen o) =
       let z = o .kind in
       rw (ne-eqb (s .callback .kind) 0 (λ e. omega arith), ne-eqb (s .callback .kind) 1 (λ e. omega arith), ne-eqb (s .callback .kind) 2 (λ e. omega arith), eq-eqb (s .callback .kind) 3 z)

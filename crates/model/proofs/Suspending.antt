@@ -39,15 +39,21 @@ test-open : (s : State) (kind asked target p : ℕ) → suspendTest (withCallbac
 unfolding suspendTest
 test-open s kind asked target p = refl
 
-test-counts : (s : State) (p q v : ℕ) → linkedOf (s .wiring) (set (s .devices .status) q v) ≡ s .devices .linked → childrenOf (s .wiring) (set (s .devices .status) q v) ≡ s .devices .children → suspendTest (withStatus s q v) p ≡ suspendTest s p
+test-counts :
+    (s : State) (p q v : ℕ) → linkedOf (s .wiring) (set (s .devices .status) q v) ≡ s .devices .linked
+    → childrenOf (s .wiring) (set (s .devices .status) q v) ≡ s .devices .children → suspendTest (withStatus s q v) p ≡ suspendTest s p
 unfolding suspendTest
 test-counts s p q v e f = rw (e, f)
 
 -- an active device that passes the test turns suspending
-pub askSuspend-good : (s : State) → KeptIn s → Carried (s .carry) → ((q : ℕ) → Steady (statusAt s q)) → (p : ℕ) → p < s .wiring .n → statusAt s p ≡ ACTIVE → suspendTest s p ≡ 0 → Good (askSuspend s p)
+pub askSuspend-good :
+    (s : State) → KeptIn s → Carried (s .carry) → ((q : ℕ) → Steady (statusAt s q))
+    → (p : ℕ) → p < s .wiring .n → statusAt s p ≡ ACTIVE → suspendTest s p ≡ 0 → Good (askSuspend s p)
 unfolding askSuspend
 askSuspend-good s k c st p l a t =
     let row = status-row s k p l in
+    let links = same-linked (s .wiring) (s .devices .status) p SUSPENDING row (rw a) ∙ sym (k .linked) in
+    let children = same-children (s .wiring) (s .devices .status) p SUSPENDING row (rw a) ∙ sym (k .children) in
     record {
       kept = kept-status s k p SUSPENDING l (omega arith) (λ z q. k .supply .rests p q (omega arith)) (λ z. absurd (omega arith));
       carried = c;
@@ -59,7 +65,7 @@ askSuspend-good s k c st p l a t =
             target = refl;
             status = getD-set-same (s .devices .status) p SUSPENDING 0 row;
             steady = λ q ne. rw (getD-set-other (s .devices .status) p q SUSPENDING 0 ne) (st q);
-            passes = test-open _ 1 p p p ∙ test-counts s p p SUSPENDING (same-linked (s .wiring) (s .devices .status) p SUSPENDING row (rw a) ∙ sym (k .linked)) (same-children (s .wiring) (s .devices .status) p SUSPENDING row (rw a) ∙ sym (k .children)) ∙ t;
+            passes = test-open _ 1 p p p ∙ test-counts s p p SUSPENDING links children ∙ t;
           });
     }
 
@@ -72,7 +78,21 @@ module _ {s : State} (h : Sound s) (o : s .callback .kind ≡ 0) (p : ℕ) (l : 
   idle-good =
       by-if Good _ _ _ (λ e. h)
       (λ e. by-if Good _ _ _ (λ a. h)
-      (λ a. record { kept = h .kept; carried = h .carried; callback = idleOpen (record { kind = refl; asked = l; target = refl; status = simp tests at a; steady = steady; passes = test-open s 3 p p p ∙ omega (arith, ltb-false) }) }))
+      (λ a.
+      record {
+        kept = h .kept;
+        carried = h .carried;
+        callback =
+            idleOpen
+            (record {
+              kind = refl;
+              asked = l;
+              target = refl;
+              status = simp tests at a;
+              steady = steady;
+              passes = test-open s 3 p p p ∙ omega (arith, ltb-false);
+            });
+      }))
 
   pub suspend-good : Good (suspend s p)
   unfolding suspend
@@ -101,9 +121,19 @@ module _ {s : State} (h : Sound s) (v : ℕ) where
   unfolding suspendResult
   suspendResult-good small o =
       let p = s .callback .asked in
-      by-if Good _ _ _ (λ e. closing (withStatus s p SUSPENDED) (kept-status s (h .kept) p SUSPENDED (o .asked) (omega arith) (λ z. absurd (omega arith)) (λ z y. alone-free s (h .kept) p (o .asked) (o .steady) (test-alone s p (o .passes)))) (h .carried) (turned (o .steady) (o .asked) SUSPENDED (omega arith)))
+      by-if Good _ _ _
+      (λ e.
+      let free = alone-free s (h .kept) p (o .asked) (o .steady) (test-alone s p (o .passes)) in
+      closing (withStatus s p SUSPENDED)
+      (kept-status s (h .kept) p SUSPENDED (o .asked) (omega arith) (λ z. absurd (omega arith)) (λ z y. free))
+      (h .carried) (turned (o .steady) (o .asked) SUSPENDED (omega arith)))
       (λ e. by-if Good _ _ _ (λ f. active)
       (λ f. quiet _ (kept-error (closed (withStatus s p ACTIVE)) (active .kept) p _ (o .asked) (small e)) (h .carried) (none-open (active .callback) refl)))
     where
       active : Sound (closed (withStatus s (s .callback .asked) ACTIVE))
-      active = closing (withStatus s (s .callback .asked) ACTIVE) (kept-status s (h .kept) (s .callback .asked) ACTIVE (o .asked) (omega arith) (λ z q. h .kept .supply .rests (s .callback .asked) q (let y = o .status in omega arith)) (λ z. absurd (omega arith))) (h .carried) (turned (o .steady) (o .asked) ACTIVE (omega arith))
+      active =
+          let p = s .callback .asked in
+          closing (withStatus s p ACTIVE)
+          (kept-status s (h .kept) p ACTIVE (o .asked) (omega arith) (λ z q. h .kept .supply .rests p q (let y = o .status in omega arith))
+          (λ z. absurd (omega arith)))
+          (h .carried) (turned (o .steady) (o .asked) ACTIVE (omega arith))

@@ -48,7 +48,9 @@ pub tallied-none : (on : ℕ → Bool) (key : ℕ → ℕ) (rows : ℕ) → Tall
 unfolding tally count
 tallied-none on key rows = record { long = length-replicate rows 0; done = λ q l. getD-replicate rows q 0 0 l }
 
-pub tallied-one : {on : ℕ → Bool} {key : ℕ → ℕ} {rows k : ℕ} {col : List ℕ} (q v : ℕ) → Tallied on key rows k col → q ≡ key k → q < rows → v ≡ getD col q 0 + bit (on k) → Tallied on key rows (k + 1) (set col q v)
+pub tallied-one :
+    {on : ℕ → Bool} {key : ℕ → ℕ} {rows k : ℕ} {col : List ℕ} (q v : ℕ) → Tallied on key rows k col
+    → q ≡ key k → q < rows → v ≡ getD col q 0 + bit (on k) → Tallied on key rows (k + 1) (set col q v)
 tallied-one {on} {key} {rows} {k} {col} q v h e l f =
     let g = h .long in
     record {
@@ -62,4 +64,6 @@ tallied-one {on} {key} {rows} {k} {col} q v h e l f =
     }
 
 pub tallied-all : {on : ℕ → Bool} {key : ℕ → ℕ} {rows k : ℕ} {col : List ℕ} → Tallied on key rows k col → col ≡ column (tally on key k) rows
-tallied-all {on} {key} {rows} {k} {col} h = ext-getD 0 col (column (tally on key k) rows) (h .long ∙ sym (length-column _ rows)) (λ i l. let g = h .long in h .done i (omega arith) ∙ sym (at-column (tally on key k) rows i (omega arith)))
+tallied-all {on} {key} {rows} {k} {col} h =
+    ext-getD 0 col (column (tally on key k) rows) (h .long ∙ sym (length-column _ rows))
+    (λ i l. let g = h .long in h .done i (omega arith) ∙ sym (at-column (tally on key k) rows i (omega arith)))

@@ -43,5 +43,7 @@ neg-small (suc k) e = omega (arith, leb-true)
 pub error-small : (v : ℕ) → allowed RESULT v ≡ true → eqb v 0 ≡ false → minus v ≤ MAXERROR
 unfolding allowed kinds
 error-small v a ne =
-    by-if (λ z. leZ (negℤ (pos MAXERROR)) z ≡ true → leZ z (pos 0) ≡ true → minus v ≤ MAXERROR) _ _ _ (λ e g h. neg-small (65536 - v) g) (λ e g h. absurd (omega (arith, leb-true v 0 h, eqb-false v 0 ne)))
+    by-if (λ z. leZ (negℤ (pos MAXERROR)) z ≡ true → leZ z (pos 0) ≡ true → minus v ≤ MAXERROR) _ _ _
+    (λ e g h. neg-small (65536 - v) g)
+    (λ e g h. absurd (omega (arith, leb-true v 0 h, eqb-false v 0 ne)))
     (and-parts _ _ a .0) (and-parts _ _ a .1)

@@ -120,7 +120,10 @@ module _ (w : Wiring) (status : List ℕ) (t : ℕ) (ms : List Bool) (q : ℕ) w
       let u = and-parts _ _ e in
       let z : Sleeping status q = ltb-true _ _ (u .0) in
       ⊎-elim (λ h. rw (eqb-true q t h) (here (rw (eqb-true q t h) at z)))
-      (λ g. ⊎-elim (λ h. let v = child-needs (omega arith) h in let x = s (v .0) (v .1) in down-to (x .0) (v .2) (x .1) z) (λ h. let v = link-needs h in let x = s (v .0) (v .1) in down-to (x .0) (v .2) (x .1) z) (or-cases _ _ g))
+      (λ g.
+      ⊎-elim (λ h. let v = child-needs (omega arith) h in let x = s (v .0) (v .1) in down-to (x .0) (v .2) (x .1) z)
+      (λ h. let v = link-needs h in let x = s (v .0) (v .1) in down-to (x .0) (v .2) (x .1) z)
+      (or-cases _ _ g))
       (or-cases _ _ (u .1))
 
 -- where the members that rest on q are marked, q belongs if it is a member
@@ -129,7 +132,9 @@ unfolding marksChild marksConsumer
 needs-marks w ms p q (child e ne ig) g = or-left _ _ (and-of _ _ (eq-eqb _ _ ig) (any-of _ _ p (g .0) (and-of _ _ (eq-eqb _ _ e) (g .1))))
 needs-marks w ms p q (link k b c o r) g = or-right _ _ (any-of _ _ k b (and-of _ _ (eq-eqb _ _ o) (and-of _ _ (eq-eqb _ _ r) (rw c (g .1)))))
 
-in-belongs : (w : Wiring) (status : List ℕ) (t : ℕ) (ms : List Bool) (q : ℕ) → ((p : ℕ) → Falls w status t p → q < p → (p < w .n) × On ms p) → Falls w status t q → belongs w status t ms q ≡ true
+in-belongs :
+    (w : Wiring) (status : List ℕ) (t : ℕ) (ms : List Bool) (q : ℕ) → ((p : ℕ) → Falls w status t p → q < p → (p < w .n) × On ms p)
+    → Falls w status t q → belongs w status t ms q ≡ true
 unfolding belongs
 in-belongs w status t ms q f (here s) = and-of _ _ (lt-ltb _ _ s) (or-left _ _ (eq-eqb t t refl))
 in-belongs w status t ms q f (down-to {p = p} i d l s) = and-of _ _ (lt-ltb _ _ s) (or-right _ _ (needs-marks w ms p q d (f p i l)))
@@ -168,7 +173,13 @@ module _ (w : Wiring) (status : List ℕ) (t : ℕ) (few : w .n ≤ NONE) (ht : 
 
   wake-right : Right w status t 0 (wakeMarks w status t)
   unfolding wakeMarks
-  wake-right = sweep-right (w .n) _ (omega arith) (record { long = length-replicate ROWS false; sound = λ p h. absurd (none-on ROWS p h); full = λ p h i. let k = falls-within i in absurd (omega arith) })
+  wake-right =
+      sweep-right (w .n) _ (omega arith)
+      (record {
+        long = length-replicate ROWS false;
+        sound = λ p h. absurd (none-on ROWS p h);
+        full = λ p h i. let k = falls-within i in absurd (omega arith);
+      })
 
   -- the marks are those of the falling members
   pub marks-long : length (wakeMarks w status t) ≡ ROWS

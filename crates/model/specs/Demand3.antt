@@ -66,7 +66,10 @@ pub record Agrees (s : State) (ps : List Piece) : Type 0 where
   pub replies : joined (feedAll s ps) ≡ repliesIn (run s (takenBytes 0 ps) .log)
   pub state : handedBack s (feedAll s ps) ≡ run s (takenBytes 0 ps) .state
   pub supply : let z = handedBack s (feedAll s ps) in Supply (z .wiring) (z .devices .status)
-  pub uses : let z = handedBack s (feedAll s ps) in let log = run s (takenBytes 0 ps) .log in (q : ℕ) → q < z .wiring .n → usage z q + counted isPut q log ≡ counted isGet q log + linkCount (z .wiring) (z .devices .status) q
+  pub uses :
+      let z = handedBack s (feedAll s ps) in
+      let log = run s (takenBytes 0 ps) .log in
+      (q : ℕ) → q < z .wiring .n → usage z q + counted isPut q log ≡ counted isGet q log + linkCount (z .wiring) (z .devices .status) q
 
 -- demand 3: from the bench of a table just loaded, at the start (k = 0) and after each piece
 abbrev pub Demand3 : List ℕ → List Piece → Type 0

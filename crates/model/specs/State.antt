@@ -127,10 +127,20 @@ withError s p v = let d = s .devices in withDevices s (record { status = d .stat
 
 -- "Every change of powered status brings the parent's child count and the link counts into line"
 abbrev pub withStatus : State → ℕ → ℕ → State
-withStatus s p v = let d = s .devices in let z = set (d .status) p v in withDevices s (record { status = z; holds = d .holds; depth = d .depth; error = d .error; children = childrenOf (s .wiring) z; linked = linkedOf (s .wiring) z })
+withStatus s p v =
+    let d = s .devices in
+    let z = set (d .status) p v in
+    withDevices s (record { status = z; holds = d .holds; depth = d .depth; error = d .error; children = childrenOf (s .wiring) z; linked = linkedOf (s .wiring) z })
 
 abbrev pub withIgnore : State → ℕ → ℕ → State
-withIgnore s p v = let w = s .wiring in record { wiring = record { n = w .n; m = w .m; parent = w .parent; ignore = set (w .ignore) p v; consumer = w .consumer; supplier = w .supplier; flags = w .flags }; devices = s .devices; callback = s .callback; carry = s .carry }
+withIgnore s p v =
+    let w = s .wiring in
+    record {
+      wiring = record { n = w .n; m = w .m; parent = w .parent; ignore = set (w .ignore) p v; consumer = w .consumer; supplier = w .supplier; flags = w .flags };
+      devices = s .devices;
+      callback = s .callback;
+      carry = s .carry;
+    }
 
 abbrev pub withCallback : State → ℕ → ℕ → ℕ → State
 withCallback s kind asked target = record { wiring = s .wiring; devices = s .devices; callback = record { kind = kind; asked = asked; target = target }; carry = s .carry }
@@ -159,7 +169,18 @@ loaded w = atRest w (padded (λ p. 1) (w .n) ROWS)
 
 -- "The empty bench (n = 0, all else zero)"
 unfoldable pub emptyState : State
-emptyState = atRest (record { n = 0; m = 0; parent = replicate ROWS 0; ignore = replicate ROWS 0; consumer = replicate LINKS 0; supplier = replicate LINKS 0; flags = replicate LINKS 0 }) (replicate ROWS 0)
+emptyState =
+    atRest
+    (record {
+      n = 0;
+      m = 0;
+      parent = replicate ROWS 0;
+      ignore = replicate ROWS 0;
+      consumer = replicate LINKS 0;
+      supplier = replicate LINKS 0;
+      flags = replicate LINKS 0;
+    })
+    (replicate ROWS 0)
 
 -- the answer to a table and what is left: the state just loaded, or where it is refused the empty bench
 pub record Loaded : Type 0 where

@@ -2,7 +2,6 @@
 use Rattle.model.specs.Logic.{if_then_else_}
 use mathlib.Core.Path.{_≡_, refl, sym, _∙_, ap}
 use mathlib.Core.Bool.{true, false}
-use mathlib.Core.List.{List}
 use Prim.Native.Nat.{ℕ, zero, suc, _<_, _≤_}
 use native.Mathlib.Omega.{arith}
 use lib.Dec.{eqb}
@@ -11,18 +10,12 @@ use Rattle.model.specs.Limits.{EINPROGRESS, minus}
 use Rattle.model.specs.State.{State}
 use Rattle.model.specs.Records.{Rec, RESULT, finished, refused, allowed, fault}
 use Rattle.model.specs.Steps.{result, suspendResult, resumeResult, idleResult, resultStep, request, busy, recordStep}
-use Rattle.model.specs.Sound.{Sound}
 use Rattle.model.proofs.Steps.{Formed, formed}
-use Rattle.links.specs.Firsts.{firstLinks}
-use Rattle.links.proofs.Keeping.{sound-indexed}
-use Rattle.memory.specs.Layout.{stateIn}
-use Rattle.request_answer.specs.declared.Reply.{Reply}
-use Rattle.request_answer.specs.Promises.{replyOf}
 use Rattle.record_step.specs.declared.CallbackKind.{CallbackKind}
 use Rattle.record_step.specs.declared.CallbackKind.the-variants.{Suspend, Resume, Idle}
 use Rattle.record_step.specs.declared.Callback.{Callback}
 use Rattle.record_step.specs.declared.Callback.the-variants.{None, Open}
-use Rattle.record_step.specs.Records.{openedAs, openIn, Requested, Stepped}
+use Rattle.record_step.specs.Records.{openedAs, openIn, Requested}
 
 -- ---- a record by what the code learnt: how many devices there are, and the fault
 module _ (s : State) (r : Rec) {n f : ℕ} (many : n ≡ s .wiring .n) (told : f ≡ fault n r) where
@@ -130,11 +123,3 @@ module _ (s : State) (p v : ℕ) where
   pub result-idle : (q t : ℕ) → Open Idle q t ≡ openIn s → p ≡ q → resultStep s p v ≡ idleResult s q v
   unfolding resultStep result if_then_else_
   result-idle q t e z = rw (← z, read e .zero-test, same Idle q t e z, read e .one-test, read e .two-test)
-
--- ---- from a sound state
-module _ (first bytes₀ words₀ : List ℕ) (r : Rec) (bytes words : List ℕ) (reply : Reply) where
-  abbrev s₀ : State
-  s₀ = stateIn bytes₀ words₀
-
-  pub sound-stepped : Stepped first bytes₀ words₀ r bytes words reply → Sound s₀ → first ≡ firstLinks (s₀ .wiring) → recordStep s₀ r ≡ record { state = stateIn bytes words; reply = replyOf reply }
-  sound-stepped h sound index = h .is (sound-indexed sound index)

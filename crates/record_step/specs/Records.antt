@@ -63,7 +63,7 @@ pub record RequestLeads (kind v : ℕ) (first bytes₀ words₀ : List ℕ) (p :
       → request (stateIn bytes₀ words₀) kind p v ≡ record { state = stateIn bytes words; reply = replyOf r }
   pub stays : Full (stateIn bytes₀ words₀) → Stays bytes₀ words₀ bytes words
 
--- a whole record, from a ready state whose links the index is of (`sound-stepped` in proofs/Stepping.antt: from a sound state); from any
+-- a whole record, from a ready state whose links the index is of; from any
 -- other, where all cells are there, nothing fixed changes
 pub record Stepped (first bytes₀ words₀ : List ℕ) (r : Rec) (bytes words : List ℕ) (reply : Reply) : Type 0 where
   pub is : Indexed (stateIn bytes₀ words₀) first → recordStep (stateIn bytes₀ words₀) r ≡ record { state = stateIn bytes words; reply = replyOf reply }

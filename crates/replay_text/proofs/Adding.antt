@@ -26,8 +26,10 @@ pub add : (t w : List ℕ) → length t + length w ≤ 256 → added (lineOf t) 
 unfolding added lineOf if_then_else_
 add t w h =
     let n : 256 - length t - length w ≡ 256 - length (t ++ w) = simp length-append (omega arith) in
-    let e : drop (length t + length w) (t ++ zeros (256 - length t)) ≡ zeros (256 - length (t ++ w)) = drop-append-add t (zeros (256 - length t)) (length w) ∙ rest (length w) (256 - length t) (omega arith) ∙ ap zeros n in
-    rw (le-leb (length t + length w) 256 h, take-append-seam t (zeros (256 - length t)), e, ← length-append t w)
+    let free = 256 - length t in
+    let dropped = drop-append-add t (zeros free) (length w) in
+    let e : drop (length t + length w) (t ++ zeros free) ≡ zeros (256 - length (t ++ w)) = dropped ∙ rest (length w) free (omega arith) ∙ ap zeros n in
+    rw (le-leb (length t + length w) 256 h, take-append-seam t (zeros free), e, ← length-append t w)
 
 -- ---- a line and its text, no longer than k
 pub record Holds (l : Line) (t : List ℕ) (k : ℕ) : Type 0 where
@@ -48,5 +50,7 @@ holds-word w g e h = holds-within w (length w) (omega arith) g e h
 pub holds-number : {l r : Line} {t : List ℕ} {k y : ℕ} (x : ℕ) → Holds l t k → y ≡ x → r ≡ added l (decimal y) → k + 20 ≤ 256 → Holds r (t ++ decimal x) (k + 20)
 holds-number x g q e h = holds-within (decimal x) 20 (decimal-length x) g (rw q at e) h
 
-pub holds-field : {l r : Line} {t : List ℕ} {k y : ℕ} (w : List ℕ) (x : ℕ) → Holds l t k → y ≡ x → r ≡ added (added l w) (decimal y) → k + length w + 20 ≤ 256 → Holds r (t ++ w ++ decimal x) (k + length w + 20)
+pub holds-field :
+    {l r : Line} {t : List ℕ} {k y : ℕ} (w : List ℕ) (x : ℕ)
+    → Holds l t k → y ≡ x → r ≡ added (added l w) (decimal y) → k + length w + 20 ≤ 256 → Holds r (t ++ w ++ decimal x) (k + length w + 20)
 holds-field w x g q e h = holds-number x (holds-word w g refl (omega arith)) q e h

@@ -9,7 +9,8 @@ use Rattle.model.specs.Logic.{_and_, all}
 use Rattle.model.specs.Table.{Wiring}
 use Rattle.model.specs.State.{State, Devices, SUSPENDING, childrenOf, linkedOf}
 use Rattle.model.specs.SoundTest.{columnTest, sameTest, parentSupplies, linkSupplies, supplyTest, tableTest, keptTest}
-use Rattle.sound_columns.specs.Parts.{parentFits, endsFit, ascendsIn, wiringTest, devicesTest}
+use Rattle.sound_rules.specs.Parts.{parentFits, endsFit}
+use Rattle.sound_columns.specs.Parts.{ascendsIn, wiringTest, devicesTest}
 
 pub column-of : (rows most : ℕ) {a : Bool} {n k : ℕ} {x y : List ℕ} → x ≡ y → n ≡ k → a ≡ columnTest rows n most x → a ≡ columnTest rows k most y
 column-of rows most e f h = rw (e, f) at h

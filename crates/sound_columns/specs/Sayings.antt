@@ -6,10 +6,6 @@ use Prim.Native.Nat.{ℕ}
 use Rattle.model.specs.State.{State, childrenOf, linkedOf}
 use Rattle.memory.specs.Layout.{stateIn}
 
--- what a test says of the state in these bytes, whatever the words are
-pub record Says (test : State → Bool) (bytes : List ℕ) (r : Bool) : Type 0 where
-  pub is : (words : List ℕ) → r ≡ test (stateIn bytes words)
-
 -- what a test says of a state of n devices and m links
 pub record SaysOf (test : State → Bool) (n m : ℕ) (s : State) (r : Bool) : Type 0 where
   pub is : s .wiring .n ≡ n → s .wiring .m ≡ m → r ≡ test s

@@ -2,13 +2,13 @@
 ghost use mathlib.Core.Path.{_≡_};
 ghost use Rattle.model.specs.Table.{markGood, versionGood, limitsGood, lengthGood, parentGood, endsGood, before, deviceGood, linkFits, ascends, entriesAnswer, tableAnswer};
 ghost use Rattle.table.specs.Answers.{answerOf};
+use basics::wide8;
 use model::DEVICES;
 use model::LINKS;
 use model::NONE;
 use table_entries::byte_at;
 use table_entries::device_byte;
 use table_entries::link_byte;
-use table_entries::wide;
 
 // The answer to a table: taken, or a refusal, in document 01's order. An entry's refusal has its index.
 pub enum Answer {
@@ -134,7 +134,7 @@ fn mark_good(t: &[u8]) -> bool
 fn version_good(t: &[u8]) -> bool
     ensures { λ r. ⌜ r ≡ versionGood (now (t .entry)) ⌝ }
 {
-    wide(byte_at(t, 3)) + 256 * wide(byte_at(t, 4)) == 1
+    wide8(byte_at(t, 3)) + 256 * wide8(byte_at(t, 4)) == 1
 }
 
 // The device count and the link count lie within the limits.
@@ -148,14 +148,14 @@ fn limits_good(t: &[u8]) -> bool
     if DEVICES < n {
         return false;
     }
-    wide(byte_at(t, 6)) <= LINKS
+    wide8(byte_at(t, 6)) <= LINKS
 }
 
 // The length is exact.
 fn length_good(t: &[u8]) -> bool
     ensures { λ r. ⌜ r ≡ lengthGood (now (t .entry)) ⌝ }
 {
-    t.len() == 7 + 2 * wide(byte_at(t, 5)) + 3 * wide(byte_at(t, 6))
+    t.len() == 7 + 2 * wide8(byte_at(t, 5)) + 3 * wide8(byte_at(t, 6))
 }
 
 // The answer to any bytes: the first fault in reading order.

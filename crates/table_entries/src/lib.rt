@@ -1,18 +1,8 @@
 // The bytes of a device table ("part table" of document 01), of any length, and of its entries.
 ghost use mathlib.Core.Path.{_≡_};
 ghost use Rattle.model.specs.Table.{byteAt, deviceByte, linkByte};
-
-pub fn wide(x: u8) -> usize
-    ensures { λ r. ⌜ r ≡ x ⌝ }
-{
-    x as usize
-}
-
-fn wide16(x: u16) -> usize
-    ensures { λ r. ⌜ r ≡ x ⌝ }
-{
-    x as usize
-}
+use basics::wide;
+use basics::wide8;
 
 // Byte k of a table, 0 past its end.
 pub fn byte_at(t: &[u8], k: usize) -> u8
@@ -25,13 +15,13 @@ pub fn byte_at(t: &[u8], k: usize) -> u8
 pub fn device_byte(t: &[u8], field: u8, p: u8) -> u8
     ensures { λ r. ⌜ r ≡ deviceByte (now (t .entry)) field p ⌝ }
 {
-    byte_at(t, 7 + 2 * wide(p) + wide(field))
+    byte_at(t, 7 + 2 * wide8(p) + wide8(field))
 }
 
 // A byte of the entry of link i: field 0 the consumer, 1 the supplier, 2 the flags.
 pub fn link_byte(t: &[u8], field: u8, i: u16) -> u8
     ensures { λ r. ⌜ r ≡ linkByte (now (t .entry)) field i ⌝ }
 {
-    let n = wide(byte_at(t, 5));
-    byte_at(t, 7 + 2 * n + 3 * wide16(i) + wide(field))
+    let n = wide8(byte_at(t, 5));
+    byte_at(t, 7 + 2 * n + 3 * wide(i) + wide8(field))
 }

@@ -6,6 +6,13 @@ use Prim.Native.Nat.{ℕ, zero, suc, _+_, _-_, _≤_, _<_}
 use lib.Dec.{eqb}
 use lib.ListN.{length, take, drop}
 
+-- the most words of a line, and the most names that are looked through, as the code has them
+abbrev pub WORDS : ℕ
+WORDS = 64
+
+abbrev pub NAMES : ℕ
+NAMES = 32
+
 unfoldable pub pick : {A : Type 0} → Bool → A → A → A
 pick true a b = a
 pick false a b = b

@@ -144,10 +144,14 @@ module _ {bytes first-links : List ℕ} {t : ℕ} where
 
   pub reaches-powered : {words : List ℕ} {r : ℕ} → ((words : List ℕ) → r ≡ stateIn bytes words .wiring .n) → ((words : List ℕ) → ACTIVE ≤ statusAt (stateIn bytes words) t) →
       Reaches bytes words first-links t (record { low = r; barred = false })
-  reaches-powered {words} n z = record { low = lowest-powered n z .is words; barred = λ h l. others-none _ (h .order) l (z words) }
+  reaches-powered {words} n z = record { low = lowest-powered n z; free = λ y. refl; barred = λ h l. others-none _ (h .order) l (z words) }
 
   pub reaches-asleep : {words : List ℕ} {r : ℕ} {b : Bool} {ms : List Bool} → ((words : List ℕ) → statusAt (stateIn bytes words) t < ACTIVE) → IsWakeSet bytes first-links t ms →
       r ≡ first (marked ms) t → HeardFrom bytes words ms r t b → Reaches bytes words first-links t (record { low = r; barred = b })
   reaches-asleep {words} {ms = ms} z m e h =
       let clear : (q : ℕ) → q < first (marked ms) t → marked ms q ≡ false = λ q k. off _ (λ o. let j = first-least (marked ms) t q o in omega arith) in
-      record { low = lowest-asleep z m e .is words; barred = λ y l. (rw e at (h .is)) (first-low (marked ms) t) clear ∙ others-below _ (y .order) l (m .is words y l) }
+      record {
+        low = lowest-asleep z m e;
+        free = λ y. let k = z words in absurd (omega arith);
+        barred = λ y l. (rw e at (h .is)) (first-low (marked ms) t) clear ∙ others-below _ (y .order) l (m .is words y l);
+      }

@@ -98,9 +98,10 @@ pub record IsLowest (bytes first : List ℕ) (t r : ℕ) : Type 0 where
 pub record HeardFrom (bytes words : List ℕ) (ms : List Bool) (low t : ℕ) (r : Bool) : Type 0 where
   pub is : low ≤ t → ((q : ℕ) → q < low → marked ms q ≡ false) → r ≡ any (λ q. marked ms q and barred (stateIn bytes words) q) t
 
--- its lowest member, and whether another member is barred
+-- its lowest member, and whether another member is barred; whatever the index has, no other is where t is powered
 pub record Reaches (bytes words first : List ℕ) (t : ℕ) (r : Reach) : Type 0 where
-  pub low : Listed (stateIn bytes words .wiring) first → t < stateIn bytes words .wiring .n → r .low ≡ lowest (stateIn bytes words) t
+  pub low : IsLowest bytes first t (r .low)
+  pub free : ACTIVE ≤ statusAt (stateIn bytes words) t → r .barred ≡ false
   pub barred : Listed (stateIn bytes words .wiring) first → t < stateIn bytes words .wiring .n → r .barred ≡ othersBarred (stateIn bytes words) t
 
 -- ---- parents

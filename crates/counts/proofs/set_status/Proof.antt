@@ -1,6 +1,7 @@
 -- Where the device was powered and stays so, or neither, no count changes; else its parent's count and its suppliers' counts follow, which
 -- is a law of `Turning` over states. Assumes nothing.
-use mathlib.Core.Path.{_∙_}
+use mathlib.Core.Path.{_≡_, _∙_}
+use mathlib.Core.Bool.{true, Bool·beq}
 use Rattle.counts.proofs.Turning.{row-of, turned-same, turned-indexed, any-same, any-other}
 use borrow.Author.Needs.{needs}
 use denote.Ref.{now}
@@ -15,7 +16,8 @@ returns c =
     let was = new .before in
     let old = was .before in
     let words = now (old .before .before .args .words) in
-    let same = rw (was .powered .ensures, old .status .ensures words, new .powered2 .ensures) at (c .if1 .taken) in
+    let equal : Bool·beq (was .powered .result) (new .powered2 .result) ≡ true = c .if1 .taken in
+    let same = rw (was .powered .ensures, old .status .ensures words, new .powered2 .ensures) at equal in
     record {
       is = λ h l. rw (stored .set-status-cell .ensures) (turned-same _ _ _ (h .ready) (row-of (h .ready) _ l) same);
       any = rw (stored .set-status-cell .ensures) (any-same _ _ _ _ same);

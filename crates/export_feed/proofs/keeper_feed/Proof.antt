@@ -6,9 +6,11 @@ use Rattle.export_feed.specs.Fed.{fedCode}
 use Rattle.export_feed.proofs.keeper_feed.Statement.{statement}
 use Rattle.export_feed.proofs.keeper_feed.Tie as tie
 
+-- the one exit
 returns : tie.Need-returns
 returns c =
-    let fed = c .before .before .before .before .before .before .feed .ensures in
+    let known = c .before .before .before .before in
+    let fed = known .before .before .feed .ensures in
     record {
       code = c .code .ensures ∙ ap (λ (f : Fed). fedCode (f .number) (f .replies)) fed;
       left = ap (λ (f : Fed). f .buffer) fed;

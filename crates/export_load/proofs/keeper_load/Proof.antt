@@ -6,6 +6,7 @@ use Rattle.export_load.specs.Loads.{coded}
 use Rattle.export_load.proofs.keeper_load.Statement.{statement}
 use Rattle.export_load.proofs.keeper_load.Tie as tie
 
+-- the one exit
 returns : tie.Need-returns
 returns c =
     let loaded = c .before .before .before .before .load .ensures in

@@ -5,7 +5,7 @@ use Rattle.export_states.proofs.keeper_lowest.Statement.{statement}
 use Rattle.export_states.proofs.keeper_lowest.Tie as tie
 
 returns : tie.Need-returns
-returns c = lowest-is (c .before .before .index .ensures) (c .lowest-member .ensures)
+returns c = lowest-is (c .before .before .index .ensures .is) (c .lowest-member .ensures)
 
 pub keeper-lowest-spec : {M : Type 1} → statement M
 keeper-lowest-spec = tie.close (tie.spec (λ c κs. search needs) (λ c κs. search needs) returns)

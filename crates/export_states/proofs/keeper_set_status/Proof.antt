@@ -5,7 +5,7 @@ use Rattle.export_states.proofs.keeper_set_status.Statement.{statement}
 use Rattle.export_states.proofs.keeper_set_status.Tie as tie
 
 returns : tie.Need-returns
-returns c = status-set (c .before .before .before .before .index .ensures) (c .set-status .ensures)
+returns c = status-set (c .before .before .before .before .index .ensures .is) (c .set-status .ensures)
 
 pub keeper-set-status-spec : {M : Type 1} → statement M
 keeper-set-status-spec = tie.close (tie.spec (λ c κs. search needs) (λ c κs. search needs) returns)

@@ -5,7 +5,10 @@ use Rattle.export_states.proofs.keeper_step.Statement.{statement}
 use Rattle.export_states.proofs.keeper_step.Tie as tie
 
 returns : tie.Need-returns
-returns c = step-is (c .before .step .result) (c .before .before .before .before .before .index .ensures) (c .before .step .ensures) (c .pack .ensures)
+returns c =
+    let stepped = c .before in
+    let start = stepped .before .before .before .before in
+    step-is (stepped .step .result) (start .index .ensures .is) (stepped .step .ensures) (c .pack .ensures)
 
 pub keeper-step-spec : {M : Type 1} → statement M
 keeper-step-spec = tie.close (tie.spec (λ c κs. search needs) (λ c κs. search needs) (λ c κs. search needs) returns)

@@ -18,15 +18,18 @@ many-words : (c : tie.After-empty) → length (c .empty .result .words) ≡ WORD
 unfolding WORDS ROWS
 many-words c = let g = c .empty .ok in search needs
 
+-- the one exit
 returns : tie.Need-returns
 returns c =
-    let m = c .before .before .before .before in
-    let n = m .before .before .before in
-    let b = n .before .before .before .before .before in
-    let x = many-bytes b in
-    let y = many-words b in
-    at-rest _ _ _ _ _ _ _ _ _ (b .empty .ensures) (omega arith) (omega arith) (n .before .byte-at .ensures) (n .set-devices .ensures)
-    (m .before .byte-at2 .ensures) (m .set-links .ensures) (c .before .before .enter-devices .ensures) (c .enter-links .ensures)
+    let devices-entered = c .before .before in
+    let links-set = devices-entered .before .before in
+    let devices-set = links-set .before .before .before in
+    let read = devices-set .before in
+    let emptied = read .before .before .before .before in
+    let x = many-bytes emptied in
+    let y = many-words emptied in
+    at-rest _ _ _ _ _ _ _ _ _ (emptied .empty .ensures) (omega arith) (omega arith) (read .byte-at .ensures) (devices-set .set-devices .ensures)
+    (links-set .before .byte-at2 .ensures) (links-set .set-links .ensures) (devices-entered .enter-devices .ensures) (c .enter-links .ensures)
 
 pub at-rest-spec : {M : Type 1} → statement M
 at-rest-spec =

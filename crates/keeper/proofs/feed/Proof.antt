@@ -16,11 +16,13 @@ many-words : (c : tie.Start) → length (c .args .bench .words) ≡ WORDS
 unfolding WORDS ROWS
 many-words c = let g = c .good .0 in search needs
 
+-- the one exit
 returns : tie.Need-returns
 returns c =
-    let f = c .before .before in
-    let b = f .before .before .before .before .before .before .before .before in
-    sym (f .feed .ensures .is (many-bytes b) (many-words b))
+    let fed = c .before .before in
+    let copied = fed .before .before .before .before in
+    let start = copied .before .before .before .before in
+    sym (fed .feed .ensures .is (many-bytes start) (many-words start))
 
 pub feed-spec : {M : Type 1} → statement M
 feed-spec = tie.close (tie.spec (λ c κs. search needs) (λ c. search needs) returns)

@@ -9,7 +9,7 @@ returns : tie.Need-returns
 returns c =
     let r = c .before .before in
     let a = r .before .before .before in
-    answered (a .about .ensures) (c .tell-number .ensures) (λ s k. c .before .number8 .ensures ∙ r .children .ensures (a .before .args .t1 .words))
+    answered (a .about .ensures) (c .tell-number .ensures) (λ s k. c .before .word8 .ensures ∙ r .children .ensures (a .before .args .t1 .words))
 
 pub child-count-spec : {M : Type 1} → statement M
 child-count-spec = tie.close (tie.spec (λ c κs. search needs) (λ c κs. search needs) (λ c κs. search needs) (λ c κs. search needs) returns)

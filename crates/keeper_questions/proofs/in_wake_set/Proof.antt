@@ -19,7 +19,7 @@ returns c =
     answered (a .about-both .ensures) (c .tell-member .ensures)
     (λ s k.
     let o = s .kept .table .order in
-    let listed : Listed (stateOf b .wiring) (i .index .result) = record { order = o; index = i .index .ensures (o .links) } in
+    let listed : Listed (stateOf b .wiring) (i .index .result) = record { order = o; index = i .index .ensures .is (o .links) } in
     let known = simp tests at k in
     rw (w .wake-set .ensures .is (b .words) listed (known .0)))
 

@@ -11,7 +11,7 @@ returns c =
     let r = c .before .before in
     let a = r .before .before .before in
     answered (a .about .ensures) (c .tell-number .ensures)
-    (λ s k. c .before .number8 .ensures ∙ r .parents-above .ensures .is (a .before .args .t1 .words) (s .kept .table .order) (simp tests at k))
+    (λ s k. c .before .word8 .ensures ∙ r .parents-above .ensures .is (a .before .args .t1 .words) (s .kept .table .order) (simp tests at k))
 
 pub parents-above-spec : {M : Type 1} → statement M
 parents-above-spec = tie.close (tie.spec (λ c κs. search needs) (λ c κs. search needs) (λ c κs. search needs) (λ c κs. search needs) returns)

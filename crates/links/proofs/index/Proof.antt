@@ -1,7 +1,8 @@
 -- `links::index` meets its contract. The invariant: the rows up to p are counted up. Assumes nothing.
+use mathlib.Core.Path.{refl}
 use Prim.Native.Nat.{_-_}
 use native.Mathlib.Omega.{arith}
-use Rattle.model.specs.Limits.{LINKS}
+use Rattle.model.specs.Limits.{LINKS, ROWS}
 use Rattle.memory.specs.Layout.{stateIn}
 use Rattle.links.proofs.Summing.{Summed, summed-none, sum-fits, summed-more, summed-all}
 use borrow.Author.Needs.{needs}
@@ -14,9 +15,13 @@ Inv-loop bytes words many first₀ p₀ first p = Summed (stateIn bytes words .w
 abbrev μ-loop : tie.MeasureT-loop
 μ-loop bytes words many first₀ p₀ first p = 256 - p
 
+-- more links than a table may have
 returns : tie.Need-returns Inv-loop μ-loop
-unfolding LINKS
-returns c = λ l. let z = c .if1 .taken in let e = c .before .links .ensures (c .before .before .args .bytes .now) in absurd (omega arith)
+unfolding LINKS ROWS
+returns c =
+    let counted = c .before in
+    let e = counted .links .ensures (counted .before .args .bytes .now) in
+    record { is = λ l. let z = c .if1 .taken in absurd (omega arith); past = λ l. refl }
 
 tallies-requires : tie.Need-tallies-requires Inv-loop μ-loop
 unfolding LINKS
@@ -27,13 +32,28 @@ loop-holds c = summed-none _ _ _ (c .tallies .ensures _)
 
 add-next-2 : tie.Need-add-next-2 Inv-loop μ-loop
 unfolding LINKS
-add-next-2 c = let z = sum-fits _ _ (c .before .loop .p) (c .before .loop .first) (c .before .loop .inv) (c .loop-test .taken) in let l = c .before .before .before .if1 .left in omega arith
+add-next-2 c =
+    let turn = c .before in
+    let few = turn .before .before in
+    let z = sum-fits _ _ (turn .loop .p) (turn .loop .first) (turn .loop .inv) (c .loop-test .taken) in
+    let l = few .if1 .left in
+    omega arith
 
 loop-again : tie.Need-loop-again Inv-loop μ-loop
 loop-again c = summed-more _ _ (c .before .loop .p) (c .before .loop .first) (c .before .loop .inv) (c .loop-test .taken)
 
+-- every row is counted up
 returns-2 : tie.Need-returns-2 Inv-loop μ-loop
-returns-2 c = λ l. let a = c .before in let e = a .before .before .before .links .ensures (a .before .before .before .before .args .bytes .now) in summed-all _ (a .loop .p) (a .loop .first) (rw e at (a .loop .inv)) (let z = c .loop-test .left in omega arith)
+unfolding LINKS
+returns-2 c =
+    let ended = c .before in
+    let few = ended .before .before in
+    let counted = few .before in
+    let e = counted .links .ensures (counted .before .args .bytes .now) in
+    record {
+      is = λ l. summed-all _ (ended .loop .p) (ended .loop .first) (rw e at (ended .loop .inv)) (let z = c .loop-test .left in omega arith);
+      past = λ l. let z = few .if1 .left in absurd (omega arith);
+    }
 
 pub index-spec : {M : Type 1} → statement M
 index-spec =

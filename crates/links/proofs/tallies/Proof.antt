@@ -37,8 +37,16 @@ unfolding LINKS
 add-i c = omega arith
 
 loop-again : tie.Need-loop-again Inv-loop μ-loop
-loop-again c = let a = c .before .before .before in (omega arith, λ words. tallied-more _ (a .loop .i) (a .loop .first) _ (c .after .result) (a .loop .inv .1 words) (c .before .consumer .ensures words) (c .after .ensures .0) (c .after .ensures .1))
+loop-again c =
+    let read = c .before in
+    let turn = read .before .before in
+    let next = c .after .ensures in (
+      omega arith,
+      λ words.
+          tallied-more _ (turn .loop .i) (turn .loop .first) _ (c .after .result) (turn .loop .inv .1 words) (read .consumer .ensures words) (next .0) (next .1),
+    )
 
+-- every link is counted
 returns : tie.Need-returns Inv-loop μ-loop
 returns c = λ words. let e : c .before .loop .i ≡ c .before .before .args .many = omega arith in rw e at (c .before .loop .inv .1 words)
 

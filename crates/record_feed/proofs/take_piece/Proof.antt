@@ -20,7 +20,7 @@ returns c =
       is = λ h u.
           let cells = long _ _ (ready h) in
           took (stateIn (start .args .bytes .now) (start .args .words .now)) h (held .carry .ensures _ cells) u (start .args .piece .now)
-          (indexed .index .ensures (h .kept .table .order .links))
+          (indexed .index .ensures .is (h .kept .table .order .links))
           (cleared .set-carried .ensures _ cells)
           (answered .answer-all .ensures .is)
           (left .rest .ensures)

@@ -8,10 +8,15 @@ use borrow.Author.Needs.{needs}
 use Rattle.record_step.proofs.allowed.Statement.{statement}
 use Rattle.record_step.proofs.allowed.Tie as tie
 
-fits-least : (c : tie.After-struct-told2) → SFits w16 (getD boundsTable (c .before .before .before .before .args .kind) noBounds .0)
+-- the start, from where the two bounds of the kind are read
+abbrev start : tie.After-struct-told2 → tie.Start
+start c = c .before .before .before .before
+
+-- a bound fits into 16 bits
+fits-least : (c : tie.After-struct-told2) → SFits w16 (getD boundsTable (start c .args .kind) noBounds .0)
 fits-least c = search needs
 
-fits-greatest : (c : tie.After-struct-told2) → SFits w16 (getD boundsTable (c .before .before .before .before .args .kind) noBounds .1)
+fits-greatest : (c : tie.After-struct-told2) → SFits w16 (getD boundsTable (start c .args .kind) noBounds .1)
 fits-greatest c = search needs
 
 -- the value is 0
@@ -22,18 +27,20 @@ returns c = zero-allowed _ _ (c .before .pre) (c .if1 .taken)
 returns-2 : tie.Need-returns-2
 returns-2 c =
     let read = c .before in
+    let bounds = read .before in
     let s = read .signed .ensures in
-    let h = read .before .before .before .before .before .fits .value .fits in
-    allowed-no _ _ (rw (s, signed-through _ h, through _ (fits-least (read .before))) at (c .if2 .taken))
+    let h = start bounds .fits .value .fits in
+    allowed-no _ _ (rw (s, signed-through _ h, through _ (fits-least bounds)) at (c .if2 .taken))
 
 -- at least the least
 returns-3 : tie.Need-returns-3
 returns-3 c =
     let read = c .before in
+    let bounds = read .before in
     let s = read .signed .ensures in
-    let h = read .before .before .before .before .before .fits .value .fits in
-    rw (s, signed-through _ h, through _ (fits-greatest (read .before)))
-    (allowed-if _ _ (rw (s, signed-through _ h, through _ (fits-least (read .before))) at (c .if2 .left)))
+    let h = start bounds .fits .value .fits in
+    rw (s, signed-through _ h, through _ (fits-greatest bounds))
+    (allowed-if _ _ (rw (s, signed-through _ h, through _ (fits-least bounds)) at (c .if2 .left)))
 
 pub allowed-spec : {M : Type 1} → statement M
 allowed-spec = tie.close (tie.spec returns (λ c. search needs) (λ c. search needs) (λ c κs. search needs) returns-2 returns-3)

@@ -51,7 +51,12 @@ returns-2 c =
     }
 
 add-i : tie.Need-add-i Inv-loop μ-loop
-add-i c = let t = c .before .before .loop-test .taken in let l = c .before .before .before .before .if1 .left in omega arith
+add-i c =
+    let turn = c .before .before in
+    let few = turn .before .before in
+    let t = turn .loop-test .taken in
+    let l = few .if1 .left in
+    omega arith
 
 loop-again : tie.Need-loop-again Inv-loop μ-loop
 loop-again c =

@@ -88,7 +88,7 @@ returns-5 c =
     record {
       is =
           λ h l.
-          let low = found .reached .ensures .low (listed h) l in
+          let low = found .reached .ensures .low .is _ (listed h) l in
           let free = rw (found .reached .ensures .barred (listed h) l) at (test .if4 .left) in
           wake-asks _ _ (clear (second-passed passed)) (inactive passed) free low
           ∙ c .ask-resume .ensures .is _ (h .ready) (rw low (lowest-asleep (h .ready) _ l));

@@ -39,7 +39,7 @@ returns-2 c =
     record {
       is =
           λ k i.
-          let low = r .reached .ensures .low (listed-in (at-start (t .before)) k i) m ∙ ap (lowest (at-start (t .before))) (t .target .ensures w) in
+          let low = r .reached .ensures .low .is w (listed-in (at-start (t .before)) k i) m ∙ ap (lowest (at-start (t .before))) (t .target .ensures w) in
           and-go (lt-ltb _ _ l) (and-stop _ (ne-eqb _ _ (λ z. c .if2 .taken (low ∙ z ∙ sym (a .asked .ensures w)))));
     }
 
@@ -59,7 +59,7 @@ returns-3 c =
     record {
       is =
           λ k i.
-          let low = r .reached .ensures .low (listed-in (at-start (t .before)) k i) m ∙ ap (lowest (at-start (t .before))) (t .target .ensures w) in
+          let low = r .reached .ensures .low .is w (listed-in (at-start (t .before)) k i) m ∙ ap (lowest (at-start (t .before))) (t .target .ensures w) in
           and-go (lt-ltb _ _ l)
           (and-go (eq-eqb _ _ (sym low ∙ u .if2 .left ∙ a .asked .ensures w)) (and-stop _ (ne-eqb _ _ (rw (c .before .status .ensures w, a .asked .ensures w) at (c .if3 .taken)))));
     }
@@ -82,7 +82,7 @@ returns-4 c =
       is =
           λ k i.
           let h = listed-in (at-start (t .before)) k i in
-          let low = r .reached .ensures .low h m ∙ ap (lowest (at-start (t .before))) (t .target .ensures w) in
+          let low = r .reached .ensures .low .is w h m ∙ ap (lowest (at-start (t .before))) (t .target .ensures w) in
           resume-last (at-start (t .before)) _ k l (sym low ∙ u .if2 .left ∙ a .asked .ensures w) (rw (v .before .status .ensures w, a .asked .ensures w) at (v .if3 .left))
           (rw (a .asked .ensures w) at (c .before .others-steady .ensures .is w)) (rw (t .target .ensures w) at (b .bars .ensures))
           (rw (t .target .ensures w) at (r .reached .ensures .barred h m)) (c .before .before .both .ensures) (c .both2 .ensures);

@@ -20,7 +20,7 @@ returns-2 c =
     let tested = carried .before .before in
     let words = tested .before .before .args .words .now in
     let e = passed (tested .before .well-kept .ensures) (tested .if1 .left) in
-    let first = carried .before .index .ensures (kept-ordered _ _ e .links) in
+    let first = carried .before .index .ensures .is (kept-ordered _ _ e .links) in
     and-go e (rw (carried .carried-good .ensures .is words, judged .callback-good .ensures .is e first) at (c .both .ensures))
 
 pub sound-spec : {M : Type 1} → statement M

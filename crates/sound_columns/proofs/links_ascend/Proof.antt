@@ -4,8 +4,8 @@ use native.Mathlib.Omega.{arith}
 use Rattle.model.specs.Limits.{LINKS}
 use Rattle.model.specs.Logic.{all}
 use Rattle.sound_columns.specs.Parts.{ascendsIn}
-use Rattle.sound_columns.specs.Sayings.{Says}
-use Rattle.sound_columns.proofs.Saying.{says-none, says-next, says-done}
+use Rattle.sound_rules.specs.Sayings.{Says}
+use Rattle.sound_rules.proofs.Saying.{says-none, says-next, says-done}
 use borrow.Author.Needs.{needs}
 use Rattle.sound_columns.proofs.links_ascend.Statement.{statement}
 use Rattle.sound_columns.proofs.links_ascend.Tie as tie

@@ -32,7 +32,8 @@ add-counts : tie.Need-add-counts Inv-loop μ-loop
 unfolding ROWS LINKS
 add-counts c =
     let bit = c .before .before in
-    let inv = bit .before .before .before .before .before .loop .inv in
+    let consumer = bit .before .before .before in
+    let inv = consumer .before .before .loop .inv in
     let l = tallied-low (inv .1 []) (c .row .result) (c .row .ensures .1) in
     let b : bit .live-bit .result ≤ 1 = rw (bit .live-bit .ensures) (live-low _ _) in
     omega arith

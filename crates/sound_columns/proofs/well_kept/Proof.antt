@@ -27,7 +27,7 @@ returns-3 c =
     let few = wide .before .before in
     let some = few .before in
     let n = some .before .devices .ensures _ in
-    let m = wide .wide .ensures ∙ wide .before .links .ensures _ in
+    let m = wide .wide32 .ensures ∙ wide .before .links .ensures _ in
     kept-linked _ _ (rw n at (some .if1 .left)) (rw n at (few .if2 .left)) (rw m at (c .if3 .taken))
 
 -- the two parts
@@ -41,7 +41,7 @@ returns-4 c =
     let few = wide .before .before in
     let some = few .before in
     let n = some .before .devices .ensures _ in
-    let m = wide .wide .ensures ∙ wide .before .links .ensures _ in
+    let m = wide .wide32 .ensures ∙ wide .before .links .ensures _ in
     kept-all _ _ (rw n at (some .if1 .left)) (rw n at (few .if2 .left)) (rw m at (fewlinks .if3 .left)) (wiring .wiring-good .ensures _ .is (sym n) (sym m))
     (devices .devices-good .ensures .is (sym n) (sym m)) (c .both .ensures)
 

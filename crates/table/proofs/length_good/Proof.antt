@@ -1,9 +1,10 @@
--- `table::length_good` meets its contract. Assumes nothing.
+-- `table::length_good` meets its contract: the two counts read are those of `lengthGood`. Assumes nothing.
 use Rattle.model.specs.Table.{lengthGood}
 use borrow.Author.Needs.{needs}
 use Rattle.table.proofs.length_good.Statement.{statement}
 use Rattle.table.proofs.length_good.Tie as tie
 
+-- the one exit
 returns : tie.Need-returns
 unfolding lengthGood
 returns c = cc

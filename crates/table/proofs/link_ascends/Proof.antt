@@ -1,4 +1,4 @@
--- `table::link_ascends` meets its contract. Assumes nothing.
+-- `table::link_ascends` meets its contract: the four bytes read are those that `ascends` compares. Assumes nothing.
 use borrow.Author.Tests.{eq-eqb, ne-eqb}
 use Rattle.model.specs.Logic.{_or_}
 use Rattle.model.specs.Table.{ascends}
@@ -6,13 +6,22 @@ use borrow.Author.Needs.{needs}
 use Rattle.table.proofs.link_ascends.Statement.{statement}
 use Rattle.table.proofs.link_ascends.Tie as tie
 
+-- the first link
 returns : tie.Need-returns
 unfolding ascends _or_
 returns c = rw (eq-eqb _ _ (c .if1 .taken))
 
+-- the link before it tells
 returns-2 : tie.Need-returns-2
 unfolding ascends _or_
-returns-2 c = rw (ne-eqb _ _ (c .before .before .before .before .before .if1 .left), ← c .before .before .before .before .link-byte .ensures, ← c .before .before .before .link-byte2 .ensures, ← c .before .before .link-byte3 .ensures, ← c .before .link-byte4 .ensures) (c .comes-before .ensures)
+returns-2 c =
+    let fourth = c .before in
+    let third = fourth .before in
+    let second = third .before in
+    let first = second .before in
+    let later = first .before in
+    rw (ne-eqb _ _ (later .if1 .left), ← first .link-byte .ensures, ← second .link-byte2 .ensures, ← third .link-byte3 .ensures, ← fourth .link-byte4 .ensures)
+    (c .comes-before .ensures)
 
 pub link-ascends-spec : {M : Type 1} → statement M
 link-ascends-spec =

@@ -1,4 +1,4 @@
--- `table::link_fits` meets its contract. Assumes nothing.
+-- `table::link_fits` meets its contract: the bytes read and the test of the ends are those of `linkFits`. Assumes nothing.
 use borrow.Author.Tests.{not-true, not-false}
 use Rattle.model.specs.Logic.{_and_}
 use Rattle.model.specs.Table.{linkFits}
@@ -6,13 +6,28 @@ use borrow.Author.Needs.{needs}
 use Rattle.table.proofs.link_fits.Statement.{statement}
 use Rattle.table.proofs.link_fits.Tie as tie
 
+-- the ends are wrong
 returns : tie.Need-returns
 unfolding linkFits _and_
-returns c = rw (← c .before .before .before .link-byte .ensures, ← c .before .before .link-byte2 .ensures, ← c .before .before .before .before .byte-at .ensures, ← c .before .ends-good .ensures, not-true (c .before .ends-good .result) (c .if1 .taken))
+returns c =
+    let tested = c .before in
+    let supplier = tested .before in
+    let consumer = supplier .before in
+    let devices = consumer .before in
+    let ends = not-true (tested .ends-good .result) (c .if1 .taken) in
+    rw (← consumer .link-byte .ensures, ← supplier .link-byte2 .ensures, ← devices .byte-at .ensures, ← tested .ends-good .ensures, ends)
 
+-- the flags tell
 returns-2 : tie.Need-returns-2
 unfolding linkFits _and_
-returns-2 c = rw (← c .before .before .before .before .link-byte .ensures, ← c .before .before .before .link-byte2 .ensures, ← c .link-byte3 .ensures, ← c .before .before .before .before .before .byte-at .ensures, ← c .before .before .ends-good .ensures, not-false (c .before .before .ends-good .result) (c .before .if1 .left))
+returns-2 c =
+    let passed = c .before in
+    let tested = passed .before in
+    let supplier = tested .before in
+    let consumer = supplier .before in
+    let devices = consumer .before in
+    let ends = not-false (tested .ends-good .result) (passed .if1 .left) in
+    rw (← consumer .link-byte .ensures, ← supplier .link-byte2 .ensures, ← c .link-byte3 .ensures, ← devices .byte-at .ensures, ← tested .ends-good .ensures, ends)
 
 pub link-fits-spec : {M : Type 1} → statement M
 link-fits-spec =

@@ -1,9 +1,10 @@
--- `table::version_good` meets its contract. Assumes nothing.
+-- `table::version_good` meets its contract: the two bytes read are those of `versionGood`. Assumes nothing.
 use Rattle.model.specs.Table.{versionGood}
 use borrow.Author.Needs.{needs}
 use Rattle.table.proofs.version_good.Statement.{statement}
 use Rattle.table.proofs.version_good.Tie as tie
 
+-- the one exit
 returns : tie.Need-returns
 unfolding versionGood
 returns c = cc

@@ -1,10 +1,11 @@
--- `test_words::byte_at` meets its contract. Assumes nothing.
+-- `test_words::byte_at` meets its contract: past the end a list has its default. Assumes nothing.
 use mathlib.Core.Path.{sym}
 use lib.ListN.{List·getD-eq-default}
 use borrow.Author.Needs.{needs}
 use Rattle.test_words.proofs.byte_at.Statement.{statement}
 use Rattle.test_words.proofs.byte_at.Tie as tie
 
+-- past the end
 returns-2 : tie.Need-returns-2
 returns-2 c = sym (List·getD-eq-default (c .before .args .s .now) 0 (c .if1 .left))
 

@@ -3,6 +3,7 @@ use mathlib.Core.Path.{_≡_}
 use Prim.Native.Nat.{_-_}
 use lib.ListN.{length}
 use borrow.Author.Needs.{needs}
+use Rattle.test_words.specs.Words.{WORDS}
 use Rattle.test_words.proofs.bytes_in.Statement.{statement}
 use Rattle.test_words.proofs.bytes_in.Tie as tie
 
@@ -10,7 +11,7 @@ abbrev Inv-loop : tie.InvT-loop
 Inv-loop line k out₀ at₀ j₀ out at j = length out ≡ length out₀
 
 abbrev μ-loop : tie.MeasureT-loop
-μ-loop line k out₀ at₀ j₀ out at j = 64 - j
+μ-loop line k out₀ at₀ j₀ out at j = WORDS - j
 
 pub bytes-in-spec : {M : Type 1} → statement M
 bytes-in-spec =

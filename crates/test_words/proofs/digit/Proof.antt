@@ -25,15 +25,19 @@ returns-3 c = rw (le-leb 48 _ (c .before .before .if1 .left), lt-leb _ 57 (c .be
 returns-4 : tie.Need-returns-4
 unfolding digitOf pick
 returns-4 c =
-    rw (le-leb 48 _ (c .before .before .before .if1 .left), lt-leb _ 57 (c .before .before .if2 .left))
-    (rw (le-leb 65 _ (c .before .if3 .left), le-leb _ 70 (c .if4 .taken)))
+    let third = c .before in
+    let second = third .before in
+    let first = second .before in
+    rw (le-leb 48 _ (first .if1 .left), lt-leb _ 57 (second .if2 .left), le-leb 65 _ (third .if3 .left), le-leb _ 70 (c .if4 .taken))
 
 -- after F
 returns-5 : tie.Need-returns-5
 unfolding digitOf pick
 returns-5 c =
-    rw (le-leb 48 _ (c .before .before .before .if1 .left), lt-leb _ 57 (c .before .before .if2 .left))
-    (rw (le-leb 65 _ (c .before .if3 .left), lt-leb _ 70 (c .if4 .left)))
+    let third = c .before in
+    let second = third .before in
+    let first = second .before in
+    rw (le-leb 48 _ (first .if1 .left), lt-leb _ 57 (second .if2 .left), le-leb 65 _ (third .if3 .left), lt-leb _ 70 (c .if4 .left))
 
 pub digit-spec : {M : Type 1} → statement M
 digit-spec = tie.close (tie.spec returns returns-2 returns-3 (λ c. search needs) returns-4 returns-5)

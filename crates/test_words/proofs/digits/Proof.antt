@@ -23,6 +23,7 @@ loop-again c =
     let read = rw (c .before .digit .ensures) at (c .joined .ensures) in
     (rw (c .joined .ensures) (joined-low _ _), rw read (value-on s (head .loop .i) (head .loop .v) (c .before .before .before .loop-test .taken)) ∙ head .loop .inv .1)
 
+-- every digit is read
 returns : tie.Need-returns Inv-loop μ-loop
 returns c =
     let at = c .before .loop in

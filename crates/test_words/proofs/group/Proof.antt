@@ -4,11 +4,18 @@ use borrow.Author.Needs.{needs}
 use Rattle.test_words.proofs.group.Statement.{statement}
 use Rattle.test_words.proofs.group.Tie as tie
 
+-- where the star was looked for
+abbrev starred : tie.After-past → tie.After-scan
+starred c = c .before .before .before
+
 part-readable-end : tie.Need-part-readable-end
-part-readable-end c = c .before .before .before .scan .ensures .high (omega arith)
+part-readable-end c = starred c .scan .ensures .high (omega arith)
 
 part-copies-end : tie.Need-part-copies-end
-part-copies-end c = c .before .before .before .before .before .before .before .scan .ensures .high (omega arith)
+part-copies-end c =
+    let read = c .before in
+    let past = read .before .before .before in
+    starred past .scan .ensures .high (omega arith)
 
 pub group-spec : {M : Type 1} → statement M
 group-spec =

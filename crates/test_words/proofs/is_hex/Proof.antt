@@ -14,20 +14,27 @@ Inv-loop s i₀ i = allHex (drop i s) ≡ allHex s
 abbrev μ-loop : tie.MeasureT-loop
 μ-loop s i₀ i = length s - i
 
+-- a byte is no digit
 returns : tie.Need-returns Inv-loop μ-loop
 returns c =
-    let head = c .before .before .before .before in
-    sym (hex-stop (head .before .before .args .s .now) (head .loop .i) (c .before .before .before .loop-test .taken) (c .before .digit .ensures) (c .if1 .taken))
-    ∙ head .loop .inv
+    let read = c .before in
+    let turn = read .before .before in
+    let head = turn .before in
+    let stop = hex-stop (head .before .before .args .s .now) (head .loop .i) (turn .loop-test .taken) (read .digit .ensures) (c .if1 .taken) in
+    sym stop ∙ head .loop .inv
 
 loop-again : tie.Need-loop-again Inv-loop μ-loop
 loop-again c =
-    let head = c .before .before .before .before in
-    hex-on (head .before .before .args .s .now) (head .loop .i) (c .before .before .before .loop-test .taken) (c .before .digit .ensures) (c .if1 .left)
-    ∙ head .loop .inv
+    let read = c .before in
+    let turn = read .before .before in
+    let head = turn .before in
+    hex-on (head .before .before .args .s .now) (head .loop .i) (turn .loop-test .taken) (read .digit .ensures) (c .if1 .left) ∙ head .loop .inv
 
+-- all bytes are digits
 returns-2 : tie.Need-returns-2 Inv-loop μ-loop
-returns-2 c = sym (hex-end (c .before .before .before .args .s .now) (c .before .loop .i) (c .loop-test .left)) ∙ c .before .loop .inv
+returns-2 c =
+    let ended = c .before in
+    sym (hex-end (ended .before .before .args .s .now) (ended .loop .i) (c .loop-test .left)) ∙ ended .loop .inv
 
 pub is-hex-spec : {M : Type 1} → statement M
 is-hex-spec =

@@ -1,25 +1,32 @@
--- `test_words::member` meets its contract. Assumes nothing.
-use Prim.Native.Nat.{_%_}
+-- `test_words::member` meets its contract: the product of two bytes and a byte more fit. Assumes nothing.
+use Prim.Native.Nat.{_*_, _%_, _≤_}
 use native.Mathlib.Omega.{arith}
 use borrow.Author.Needs.{needs}
 use Rattle.test_words.proofs.Reading.{small}
 use Rattle.test_words.proofs.member.Statement.{statement}
 use Rattle.test_words.proofs.member.Tie as tie
 
+-- the start
+abbrev start : tie.After-wide2 → tie.Start
+start c =
+    let first = c .before .before in
+    first .before .before .before .before
+
+-- the product of the two bytes
+product : (c : tie.After-wide2) → (start c .args .c % 256) * c .wide2 .result ≤ 65025
+product c = small (omega arith) (omega arith)
+
 mul-result : tie.Need-mul-result
-mul-result c =
-    let p = small {x = c .before .before .before .before .before .before .args .c % 256} {y = c .wide2 .result} (omega arith) (omega arith) in
-    omega (arith, p)
+mul-result c = omega (arith, product c)
 
 add-result : tie.Need-add-result
-add-result c =
-    let p = small {x = c .before .before .before .before .before .before .args .c % 256} {y = c .wide2 .result} (omega arith) (omega arith) in
-    omega (arith, p)
+add-result c = omega (arith, product c)
 
+-- the one exit
 returns : tie.Need-returns
 returns c =
-    rw (c .before .before .wide .ensures, c .before .before .before .hex-byte .ensures)
-    (rw (c .wide2 .ensures, c .before .hex-byte2 .ensures))
+    let first = c .before .before in
+    rw (first .wide .ensures, first .before .hex-byte .ensures) (rw (c .wide2 .ensures, c .before .hex-byte2 .ensures))
 
 pub member-spec : {M : Type 1} → statement M
 member-spec =

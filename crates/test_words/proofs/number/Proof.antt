@@ -8,18 +8,24 @@ use Rattle.test_words.specs.Numbers.{numberOf}
 use Rattle.test_words.proofs.number.Statement.{statement}
 use Rattle.test_words.proofs.number.Tie as tie
 
+-- a minus stands first
 returns : tie.Need-returns
 unfolding numberOf pick
 returns c =
-    let s = c .before .before .before .before .before .args .s .now in
-    rw (eq-eqb (getD s 0 0) 45 (sym (c .before .before .before .byte-at .ensures) ∙ c .before .before .if1 .taken), ← c .before .digits .ensures)
-    (c .minus .ensures)
+    let read = c .before in
+    let signed = read .before in
+    let first = signed .before in
+    let s = first .before .before .args .s .now in
+    rw (eq-eqb (getD s 0 0) 45 (sym (first .byte-at .ensures) ∙ signed .if1 .taken), ← read .digits .ensures) (c .minus .ensures)
 
+-- none does
 returns-2 : tie.Need-returns-2
 unfolding numberOf pick
 returns-2 c =
-    let s = c .before .before .before .before .args .s .now in
-    rw (ne-eqb (getD s 0 0) 45 (λ e. c .before .if1 .left (c .before .before .byte-at .ensures ∙ e))) (c .digits2 .ensures)
+    let plain = c .before in
+    let first = plain .before in
+    let s = first .before .before .args .s .now in
+    rw (ne-eqb (getD s 0 0) 45 (λ e. plain .if1 .left (first .byte-at .ensures ∙ e))) (c .digits2 .ensures)
 
 pub number-spec : {M : Type 1} → statement M
 number-spec =

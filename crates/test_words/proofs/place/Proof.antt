@@ -4,16 +4,16 @@ use Prim.Native.Nat.{ℕ, _≤_, _<_, _-_}
 use native.Mathlib.Omega.{arith}
 use borrow.Author.Count.{below-more}
 use borrow.Author.Needs.{needs}
-use Rattle.test_words.specs.Words.{wordIn}
+use Rattle.test_words.specs.Words.{NAMES, wordIn}
 use Rattle.test_words.proofs.Scanning.{denied}
 use Rattle.test_words.proofs.place.Statement.{statement}
 use Rattle.test_words.proofs.place.Tie as tie
 
 abbrev Inv-loop : tie.InvT-loop
-Inv-loop names text j₀ j = (j ≤ 32) × ((k : ℕ) → k < j → wordIn 32 names k ≡ text → ⊥)
+Inv-loop names text j₀ j = (j ≤ NAMES) × ((k : ℕ) → k < j → wordIn 32 names k ≡ text → ⊥)
 
 abbrev μ-loop : tie.MeasureT-loop
-μ-loop names text j₀ j = 32 - j
+μ-loop names text j₀ j = NAMES - j
 
 -- found
 returns : tie.Need-returns Inv-loop μ-loop

@@ -18,6 +18,7 @@ Inv-loop s from byte same i₀ i =
 abbrev μ-loop : tie.MeasureT-loop
 μ-loop s from byte same i₀ i = length s - i
 
+-- it stops at a byte
 returns : tie.Need-returns Inv-loop μ-loop
 returns c =
     let head = c .before .before .before .before in
@@ -34,6 +35,7 @@ loop-again c =
     let one = scan-on (given .byte) (given .same) (given .s .now) (head .loop .i) more (sym (c .before .stops .ensures) ∙ c .if1 .left) in
     (omega arith, (λ h. omega arith), rw (add-one (head .loop .i)) (omega (arith, one, head .loop .inv .2)))
 
+-- it stops at the end
 returns-2 : tie.Need-returns-2 Inv-loop μ-loop
 returns-2 c =
     let given = c .before .before .before .args in

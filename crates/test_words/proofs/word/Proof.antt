@@ -15,12 +15,18 @@ abbrev μ-loop : tie.MeasureT-loop
 μ-loop s k between start₀ stop₀ i₀ start stop i = k - i
 
 loop-again : tie.Need-loop-again Inv-loop μ-loop
-loop-again c = (omega arith, word-next _ (c .before .before .before .loop .inv .1) (c .before .scan3 .ensures) (c .scan4 .ensures))
+loop-again c =
+    let started = c .before in
+    let head = started .before .before in
+    (omega arith, word-next _ (head .loop .inv .1) (started .scan3 .ensures) (c .scan4 .ensures))
 
+-- word k is reached
 returns : tie.Need-returns Inv-loop μ-loop
 returns c =
-    let last : c .before .loop .i ≡ c .before .before .before .before .before .args .k = omega arith in
-    rw last at (c .before .loop .inv .1)
+    let ended = c .before in
+    let start = ended .before .before .before .before in
+    let last : ended .loop .i ≡ start .args .k = omega arith in
+    rw last at (ended .loop .inv .1)
 
 pub word-spec : {M : Type 1} → statement M
 word-spec =

@@ -144,7 +144,10 @@ whole t c =
 -- ---- mark_suppliers
 -- where a link of the table was left, from where link k was asked about; before that stands the start
 abbrev room-of : (t : ℕ) → suppliers-lts.After-on-supplier (suppliers-claims t) (suppliers-at t) suppliers.Post → suppliers-lts.Else1 (suppliers-claims t) (suppliers-at t) suppliers.Post
-room-of t c = let end = c .before .before in let at = end .before .before in at .before
+room-of t c =
+    let end = c .before .before in
+    let at = end .before .before in
+    at .before
 
 -- no link of the table is left
 table-passed : (t : ℕ) → suppliers-lts.Need-returns (suppliers-claims t) (suppliers-at t) suppliers.Post

@@ -18,11 +18,12 @@ returns c = rw (failed (c .before .sound .ensures .test) (c .if1 .taken))
 returns-2 : tie.Need-returns-2
 unfolding requested if_then_else_
 returns-2 c =
-    let i = c .before .before .before .before in
-    let t = i .before .before .before .before .before in
-    let v = t .before .sound .ensures in
-    let h = v .sound (not-false _ (t .if1 .left)) in
-    rw (passed (v .test) (t .if1 .left), c .step .ensures .is (sound-indexed h (i .index .ensures (h .kept .table .order .links))))
+    let indexed = c .before .before .before .before in
+    let lent = indexed .before in
+    let tested = lent .before .before .before .before in
+    let v = tested .before .sound .ensures in
+    let h = v .sound (not-false _ (tested .if1 .left)) in
+    rw (passed (v .test) (tested .if1 .left), c .step .ensures .is (sound-indexed h (indexed .index .ensures .is (h .kept .table .order .links))))
 
 pub take-spec : {M : Type 1} → statement M
 take-spec = tie.close (tie.spec (λ c κs. search needs) returns (λ c κs. search needs) (λ c κs. search needs) returns-2)

@@ -19,34 +19,49 @@ Inv-loop text bytes₀ used i₀ bytes i = (i ≤ length text) × (used + length
 abbrev μ-loop : tie.MeasureT-loop
 μ-loop text bytes₀ used i₀ bytes i = length text - i
 
+-- the line says that it has more text than room
 returns : tie.Need-returns Inv-loop μ-loop
 unfolding added if_then_else_
-returns c = let h : 256 < c .before .before .args .line .used + length (now (c .before .before .args .text)) = omega arith in rw (lt-leb _ _ h)
+returns c =
+    let start = c .before .before .args in
+    let h : 256 < start .line .used + length (now (start .text)) = omega arith in
+    rw (lt-leb _ _ h)
 
+-- the word does not fit
 returns-2 : tie.Need-returns-2 Inv-loop μ-loop
 unfolding added if_then_else_
-returns-2 c = let h : 256 < c .before .before .before .args .line .used + length (now (c .before .before .before .args .text)) = omega arith in rw (lt-leb _ _ h)
+returns-2 c =
+    let start = c .before .before .before .args in
+    let h : 256 < start .line .used + length (now (start .text)) = omega arith in
+    rw (lt-leb _ _ h)
 
 loop-holds : tie.Need-loop-holds Inv-loop μ-loop
 loop-holds c =
     let start = c .before .before .before in
-    let g = start .good .0 in (omega arith, omega arith, (search needs), paste-zero (start .args .line .bytes) (start .args .line .used) (now (start .args .text)))
+    let g = start .good .0 in
+    (omega arith, omega arith, (search needs), paste-zero (start .args .line .bytes) (start .args .line .used) (now (start .args .text)))
 
 loop-again : tie.Need-loop-again Inv-loop μ-loop
 loop-again c =
-    let start = c .before .before .before .before .before .before .args in
-    let at = c .before .before .loop in
+    let head = c .before .before in
+    let start = head .before .before .before .before .args in
+    let at = head .loop in
     let l = at .inv .2 in
     let h : start .line .used + at .i < length (start .line .bytes) = omega arith in
-    let m : at .i < length (now (start .text)) = omega arith in (omega arith, omega arith, at .inv .2, rw (at .inv .3, add-one (at .i)) (paste-suc (start .line .bytes) (start .line .used) (now (start .text)) (at .i) 0 h m))
+    let m : at .i < length (now (start .text)) = omega arith in
+    let pasted = paste-suc (start .line .bytes) (start .line .used) (now (start .text)) (at .i) 0 h m in
+    (omega arith, omega arith, at .inv .2, rw (at .inv .3, add-one (at .i)) pasted)
 
+-- the word is copied
 returns-3 : tie.Need-returns-3 Inv-loop μ-loop
 unfolding added if_then_else_
 returns-3 c =
-    let start = c .before .before .before .before .before .args in
-    let at = c .before .loop in
+    let head = c .before in
+    let start = head .before .before .before .before .args in
+    let at = head .loop in
     let e : at .i ≡ length (now (start .text)) = omega arith in
-    let h : start .line .used + length (now (start .text)) ≤ 256 = omega arith in rw (le-leb _ _ h, at .inv .3, e, take-length (now (start .text)))
+    let h : start .line .used + length (now (start .text)) ≤ 256 = omega arith in
+    rw (le-leb _ _ h, at .inv .3, e, take-length (now (start .text)))
 
 pub word-spec : {M : Type 1} → statement M
 word-spec =
