@@ -1,7 +1,7 @@
 -- The loop over a piece: after k records the rest of the bytes leads where all of them lead. Assumes nothing.
 use mathlib.Core.Path.{_≡_, refl, sym, _∙_, ap, subst}
 use mathlib.Core.List.{List, [], _∷_, _++_}
-use Prim.Native.Nat.{ℕ, zero, suc, _+_, _-_, _*_, _/_, _%_, _<_, _≤_}
+use Prim.Native.Nat.{ℕ, zero, suc, _+_, _*_, _/_, _%_, _<_, _≤_}
 use native.Mathlib.Omega.{arith}
 use native.Mathlib.Nat.{add-zero}
 use lib.ListN.{length, getD, take, drop, length-drop}
@@ -18,7 +18,7 @@ use Rattle.model.proofs.Pieces.{log-replies, log-joined}
 use Rattle.links.specs.Firsts.{Indexed}
 use Rattle.links.proofs.Keeping.{sound-indexed, record-index}
 use Rattle.record_feed.specs.Pieces.{recordIn, fourIn, restIn, overAt, nothing, Between, Led, Reached, Turning}
-use Rattle.record_feed.proofs.Joining.{next-four, over-length, over-more, over-none, over-part, part-lent, part-back}
+use Rattle.record_feed.proofs.Joining.{next-four, over-length, over-more, over-none, over-part}
 
 -- ---- the carried bytes, fed again where none wait
 held : (s : State) (bytes : List ℕ) (used : ℕ) → Carried (record { bytes = bytes; used = used })
@@ -156,9 +156,6 @@ module _ {first : List ℕ} {s t : State} (w before : List ℕ) {out : List ℕ}
       let u : s .carry .used ≡ 0 = ap (λ c. c .used) (z .none) in
       log-replies (run s (fourIn w) .log) ∙ rw (n, u)
 
-  head-long : length out ≡ length before
-  head-long = rw (head .buffer) (over-length before 0 (repliesIn (run s (fourIn w) .log)) one-reply room)
-
   -- the rest leads where the whole leads
   same-state : run s w .state ≡ run t (drop 4 w) .state
   same-state = subst (λ (x : List ℕ). run s x .state ≡ run t (drop 4 w) .state) (sym split) (rw stays at (run-joined s (fourIn w) (drop 4 w) .0))
@@ -181,16 +178,13 @@ module _ {first : List ℕ} {s t : State} (w before : List ℕ) {out : List ℕ}
       let at : (d : ℕ) → getD (drop 4 w) (i + d) 0 ≡ getD w (4 * (length w / 4) + d) 0 = λ d. getD-drop 4 w (i + d) 0 ∙ rw (place d) in
       rw (getD-drop 4 w i 0, e, at 1, at 2)
 
-  -- the others lead on from t, their replies in the part of the buffer after the first, which is lent and comes back
-  pub led-joined : {u : State} {after : List ℕ} → Led first t (drop 4 w) (take (length out - 4) (drop 4 out)) u after
-      → Led first s w before u (take 4 out ++ (after ++ drop (length out - 4) (drop 4 out)))
+  -- the others lead on from t, their replies in the part of the buffer after the first
+  pub led-joined : {u : State} {after : List ℕ} → Led first t (drop 4 w) (drop 4 out) u after → Led first s w before u (take 4 out ++ after)
   led-joined {u} {after} rest =
       let l = length-drop 4 w in
       let e : length (drop 4 w) % 4 ≡ length w % 4 = omega arith in
-      let long = head-long in
-      let written = rw (part-lent 4 out) at (rest .buffer) in
       record {
         between = rest .between;
         state = same-state ∙ rest .state ∙ rw (left-over, e);
-        buffer = part-back 4 out after (omega arith) ∙ rw written (over-part 4 (repliesIn (run t (drop 4 w) .log)) out ∙ same-replies);
+        buffer = rw (rest .buffer) (over-part 4 (repliesIn (run t (drop 4 w) .log)) out ∙ same-replies);
       }

@@ -1,7 +1,7 @@
 -- A piece of log over the memory: the words of the contracts. Assumes nothing.
 use mathlib.Core.Path.{_≡_}
 use mathlib.Core.List.{List, [], _∷_, _++_}
-use Prim.Native.Nat.{ℕ, _+_, _*_, _/_, _%_, _≤_}
+use Prim.Native.Nat.{ℕ, _+_, _-_, _*_, _/_, _%_, _≤_}
 use lib.ListN.{length, getD, take, drop, replicate}
 use Rattle.model.specs.Limits.{MAXPIECE}
 use Rattle.model.specs.State.{State, Carry, withCarry}
@@ -62,6 +62,13 @@ pub record Room (used : ℕ) (piece buffer : List ℕ) : Type 0 where
   pub short : length piece ≤ MAXPIECE
   pub room : 4 * ((used + length piece) / 4) ≤ length buffer
 
+-- a short piece from byte `from` on, and room for its replies after the first
+pub record RoomFrom (from : ℕ) (piece buffer : List ℕ) : Type 0 where
+  pub within : from ≤ length piece
+  pub short : length piece ≤ MAXPIECE
+  pub one : 4 ≤ length buffer
+  pub room : 4 * ((length piece - from) / 4) ≤ length buffer - 4
+
 abbrev pub nothing : Carry
 nothing = record { bytes = replicate 3 0; used = 0 }
 
@@ -94,6 +101,12 @@ pub record Turning (first w before : List ℕ) (count k : ℕ) (s₀ s : State) 
 -- the same between two memories
 pub record Ran (first bytes₀ words₀ before w bytes words after : List ℕ) : Type 0 where
   pub is : Between first (stateIn bytes₀ words₀) → Led first (stateIn bytes₀ words₀) w before (stateIn bytes words) after
+
+-- the bytes of a piece from byte `from` on, their replies in the part of the buffer after the first
+pub record RanFrom (from : ℕ) (first bytes₀ words₀ before piece bytes words after : List ℕ) : Type 0 where
+  pub part : List ℕ
+  pub is : Between first (stateIn bytes₀ words₀) → Led first (stateIn bytes₀ words₀) (drop from piece) (drop 4 before) (stateIn bytes words) part
+  pub back : after ≡ take 4 before ++ part
 
 -- a piece that is not refused, from a sound state with so many carried bytes: the state it leads to, and its replies in the buffer
 pub record Took (used : ℕ) (bytes₀ words₀ piece before bytes words after : List ℕ) : Type 0 where

@@ -6,7 +6,7 @@ ghost use Rattle.model.specs.Limits.{MAXPIECE};
 ghost use Rattle.model.specs.Records.{replyBytes};
 ghost use Rattle.request_answer.specs.Promises.{replyOf};
 ghost use Rattle.record_step.specs.Records.{recOf};
-ghost use Rattle.record_feed.specs.Pieces.{numberOf, repliesOf, joined, At, recordIn, fourIn, restIn, overAt, Room, Ran, Took, FedIn};
+ghost use Rattle.record_feed.specs.Pieces.{numberOf, repliesOf, joined, At, recordIn, fourIn, restIn, overAt, Room, RoomFrom, Ran, RanFrom, Took, FedIn};
 use basics::wide8;
 use links::FIRSTS;
 use memory::BYTES;
@@ -140,6 +140,42 @@ fn answer_records<'a>(
     }
 }
 
+// Answers the record that carried bytes begin.
+fn answer_first<'a>(
+    bytes: &mut [u8; BYTES],
+    words: &mut [u32; WORDS],
+    first: &'a [u16; FIRSTS],
+    carried: Carried,
+    piece: &'a [u8],
+    replies: &mut [u8],
+)
+    requires { ⌜ (carried .used ≤ 3) × (4 ≤ length (now replies)) ⌝ }
+    ensures { λ _. ⌜ Ran (now (first .entry)) (now (bytes .entry)) (now (words .entry)) (now (replies .entry))
+        (fourIn (joined (carried .bytes) (carried .used) (now (piece .entry))))
+        (now (bytes .exit)) (now (words .exit)) (now (replies .exit)) ⌝ }
+{
+    let held = carried.bytes;
+    let used = carried.used;
+    let front = head(held, used, piece);
+    answer_records(bytes, words, first, &front, replies);
+}
+
+// Answers the records of a piece from byte `from` on, after the first reply.
+fn answer_rest<'a>(
+    bytes: &mut [u8; BYTES],
+    words: &mut [u32; WORDS],
+    first: &'a [u16; FIRSTS],
+    piece: &'a [u8],
+    from: usize,
+    replies: &mut [u8],
+)
+    requires { ⌜ RoomFrom from (now piece) (now replies) ⌝ }
+    ensures { λ _. ⌜ RanFrom from (now (first .entry)) (now (bytes .entry)) (now (words .entry)) (now (replies .entry)) (now (piece .entry))
+        (now (bytes .exit)) (now (words .exit)) (now (replies .exit)) ⌝ }
+{
+    answer_records(bytes, words, first, &piece[from..], &mut replies[4..]);
+}
+
 // The whole records of the carried bytes and the piece. The one that carried bytes begin is answered by itself, then those of the rest of
 // the piece.
 fn answer_all<'a>(
@@ -155,7 +191,6 @@ fn answer_all<'a>(
         (joined (carried .bytes) (carried .used) (now (piece .entry)))
         (now (bytes .exit)) (now (words .exit)) (now (replies .exit)) ⌝ }
 {
-    let held = carried.bytes;
     let used = carried.used;
     if used < 1 {
         answer_records(bytes, words, first, piece, replies);
@@ -164,10 +199,8 @@ fn answer_all<'a>(
     if used + piece.len() < 4 {
         return;
     }
-    let front = head(held, used, piece);
-    answer_records(bytes, words, first, &front, replies);
-    let from = 4 - used;
-    answer_records(bytes, words, first, &piece[from..], &mut replies[4..]);
+    answer_first(bytes, words, first, carried, piece, replies);
+    answer_rest(bytes, words, first, piece, 4 - used, replies);
 }
 
 // A piece that is not refused, after so many carried bytes: its records answered, the bytes left over carried.

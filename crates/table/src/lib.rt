@@ -53,7 +53,7 @@ fn ends_good(n: u8, consumer: u8, supplier: u8) -> bool
 }
 
 // One link comes strictly before another: by consumer, then by supplier.
-pub fn comes_before(c: u8, s: u8, c2: u8, s2: u8) -> bool
+fn comes_before(c: u8, s: u8, c2: u8, s2: u8) -> bool
     ensures { λ r. ⌜ r ≡ before c s c2 s2 ⌝ }
 {
     if c < c2 {

@@ -1,11 +1,11 @@
 -- Where bytes are carried, the first record is answered by itself, then those of the piece. Assumes nothing.
 use mathlib.Core.Path.{_≡_}
 use mathlib.Core.List.{List}
-use Prim.Native.Nat.{ℕ, _-_, _≤_}
+use Prim.Native.Nat.{ℕ, _≤_}
 use native.Mathlib.Omega.{arith}
-use lib.ListN.{length, length-drop}
-use Rattle.record_feed.specs.Pieces.{joined, Room}
-use Rattle.record_feed.proofs.Joining.{joined-length, rest-after, part-lent}
+use lib.ListN.{length}
+use Rattle.record_feed.specs.Pieces.{joined}
+use Rattle.record_feed.proofs.Joining.{joined-length, rest-after}
 use Rattle.record_feed.proofs.Looping.{turning-start, turning-end, led-joined}
 use borrow.Author.Needs.{needs}
 use Rattle.record_feed.proofs.answer_all.Statement.{statement}
@@ -22,18 +22,15 @@ rows start =
 abbrev all-bytes : tie.Start → List ℕ
 all-bytes b = joined (b .args .carried .bytes) (b .args .carried .used) (b .args .piece .now)
 
--- the start, from where bytes are carried and from where a whole record is read of them
+-- the start, from where bytes are carried
 abbrev carrying : tie.Else1 → tie.Start
-carrying c = c .before .before .before .before
-
-abbrev reading : tie.After-head → tie.Start
-reading c = carrying (c .before .before)
+carrying c = c .before .before .before
 
 -- nothing is carried: the records stand in the piece
 answer-records-requires : tie.Need-answer-records-requires
 answer-records-requires c κs =
     let none = c .before .before .before in
-    let start = none .before .before .before .before in
+    let start = none .before .before .before in
     let u = none .if1 .taken in
     let r = start .pre .room in
     record { few = omega arith; short = start .pre .short; room = omega arith }
@@ -45,7 +42,7 @@ returns : tie.Need-returns
 returns c =
     let ran = c .before .before in
     let none = ran .before .before .before .before in
-    let start = none .before .before .before .before in
+    let start = none .before .before .before in
     let e : start .args .carried .used ≡ 0 = (let u = none .if1 .taken in omega arith) in
     record { is = λ z. rw e (ran .answer-records .ensures .is z) }
 
@@ -56,82 +53,64 @@ returns-2 c =
     let long = joined-length (start .args .carried .bytes) (start .args .piece .now) (start .args .carried .used) (rows start) in
     record { is = λ z. turning-end (turning-start (let r = start .pre .room in omega arith)) (let l = c .if2 .taken in omega arith) z }
 
--- the first record, then the others
-slice-aggregate : tie.Need-slice-aggregate-answer-records
-slice-aggregate c = search needs
-
--- there is room for the first reply
-first-fits : (c : tie.After-head) → Room 0 (c .head .result) (reading c .args .replies .now)
-first-fits c =
-    let l = c .before .if2 .left in
-    let r = reading c .pre .room in
-    record { few = omega arith; short = rw (c .head .ensures) (omega arith); room = rw (c .head .ensures) (omega arith) }
-
 -- there is a whole record, and room for its reply
-whole-record : (c : tie.After-head) → 4 ≤ length (all-bytes (reading c))
+whole-record : (c : tie.Else2) → 4 ≤ length (all-bytes (carrying (c .before)))
 whole-record c =
-    let start = reading c in
-    let l = c .before .if2 .left in
+    let start = carrying (c .before) in
+    let l = c .if2 .left in
     let long = joined-length (start .args .carried .bytes) (start .args .piece .now) (start .args .carried .used) (rows start) in
     omega arith
 
-room-for-one : (c : tie.After-head) → 4 ≤ length (reading c .args .replies .now)
+room-for-one : (c : tie.Else2) → 4 ≤ length (carrying (c .before) .args .replies .now)
 room-for-one c =
-    let l = c .before .if2 .left in
-    let r = reading c .pre .room in
+    let l = c .if2 .left in
+    let r = carrying (c .before) .pre .room in
     omega arith
 
 used-up : (start : tie.Start) → start .args .carried .used ≤ 4
 used-up start = let few = start .pre .few in omega arith
 
-answer-records-requires-2 : tie.Need-answer-records-requires-2
-answer-records-requires-2 c κs = first-fits (c .before .before .before .before)
+-- the first record, then the others
+answer-first-requires : tie.Need-answer-first-requires
+answer-first-requires c κs =
+    let some = c .before .before .before in
+    (carrying (some .before) .pre .few, room-for-one some)
 
--- the rest of the piece, and the part of the buffer after the first reply
-answer-records-requires-3 : tie.Need-answer-records-requires-3
-answer-records-requires-3 c κs =
-    let lent = c .before .before in
-    let first-run = lent .before .before .before .before in
-    let front = first-run .before .before in
-    let start = reading (front .before .before .before) in
-    let piece = start .args .piece .now in
-    let out = first-run .answer-records2 .last .1 .1 .1 .1 .0 in
-    let from = 4 - start .args .carried .used in
+answer-rest-requires : tie.Need-answer-rest-requires
+answer-rest-requires c κs =
+    let known = c .before .before .before in
+    let answered = known .before .before in
+    let some = answered .before .before .before .before in
+    let start = carrying (some .before) in
+    let l = some .if2 .left in
+    let u = some .before .if1 .left in
     let few = start .pre .few in
-    let r = start .pre .room in
-    let l = length-drop from piece in
-    let m = length-drop 4 out in
     let short = start .pre .short in
-    let many : length out ≡ length (start .args .replies .now) = search needs in
-    rw (part-lent from piece, part-lent 4 out) (record { few = omega arith; short = omega arith; room = omega arith })
+    let r = start .pre .room in
+    let many : length (answered .answer-first .last .1 .1 .1 .1 .1 .0) ≡ length (start .args .replies .now) = search needs in
+    record { within = omega arith; short = short; one = omega arith; room = omega arith }
 
 same-length-2 : tie.Need-same-length-2
 same-length-2 c = search needs
 
 returns-3 : tie.Need-returns-3
 returns-3 c =
-    let ran = c .before .before in
-    let lent = ran .before .before .before in
-    let first-run = lent .before .before .before .before in
-    let front = first-run .before .before in
-    let headed = front .before .before .before in
-    let start = reading headed in
-    let held = start .args .carried .bytes in
-    let used = start .args .carried .used in
-    let piece = start .args .piece .now in
-    let before = start .args .replies .now in
-    let four = whole-record headed in
+    let rested = c .before .before in
+    let known = rested .before .before .before .before in
+    let answered = known .before .before in
+    let some = answered .before .before .before .before in
+    let start = carrying (some .before) in
+    let rest = rested .answer-rest .ensures in
+    let after = rest-after (start .args .carried .bytes) (start .args .piece .now) (start .args .carried .used) (rows start) 4 (used-up start) in
     record {
       is = λ z.
-          let head = rw (headed .head .ensures) at (first-run .answer-records2 .ensures .is z) in
-          let rest = rest-after held piece used (rows start) 4 (used-up start) in
-          let more = rw (part-lent (4 - used) piece, rest) at (ran .answer-records3 .ensures .is (head .between)) in
-          led-joined (all-bytes start) before four (room-for-one headed) z head more;
+          let head = answered .answer-first .ensures .is z in
+          let more = rw after at (rest .is (head .between)) in
+          rw (rest .back) (led-joined (all-bytes start) (start .args .replies .now) (whole-record some) (room-for-one some) z head more);
     }
 
 pub answer-all-spec : {M : Type 1} → statement M
 answer-all-spec =
     tie.close
-    (tie.spec answer-records-requires same-length returns (λ c. search needs) returns-2 (λ c κs. search needs) slice-aggregate answer-records-requires-2
-    (λ c. search needs) (λ c. search needs) (λ c. search needs) (λ c. search needs) (λ c. search needs) (λ c. search needs) (λ c. search needs)
-    answer-records-requires-3 same-length-2 returns-3)
+    (tie.spec answer-records-requires same-length returns (λ c. search needs) returns-2 answer-first-requires (λ c. search needs) answer-rest-requires
+    same-length-2 returns-3)
