@@ -2,7 +2,7 @@
 # make scripts   the test programs on their scripts, proved, built and run
 # make test      the gate: every check, ending with the toolchain's verdict
 # make sample    the definitions against the second implementation; SEED and COUNT choose the cases
-# make compare   the proved code against the second implementation; SEED, TABLES, BENCHES, RECORDS and FEEDS choose the cases
+# make compare   the proved code against the second implementation; SEED, TABLES, BENCHES, RECORDS, QUESTIONS and FEEDS choose the cases
 # make bench     the time of both over one log
 SHELL := /bin/bash
 .SHELLFLAGS := -o pipefail -c
@@ -11,6 +11,7 @@ COUNT ?= 100
 TABLES ?= 100000
 BENCHES ?= 2000
 RECORDS ?= 30000
+QUESTIONS ?= 600
 FEEDS ?= 100000
 # one core for the times, where that can be asked for
 PIN := $(shell command -v taskset > /dev/null && echo taskset -c 0)
@@ -66,11 +67,12 @@ sample:
 
 # the proved code, linked with the second implementation
 harness:
-	rt check keeper wakeset counts
+	rt check keeper keeper_questions wakeset counts
 	rt staticlib export_cells
 	rt staticlib export_states
 	rt staticlib export_load
 	rt staticlib export_feed
+	rt staticlib export_bench
 	cd tests/compare && cargo build --release --offline --quiet
 
 compare:
@@ -78,11 +80,12 @@ compare:
 	$(MAKE) states
 	$(MAKE) feeds
 
-# tables, benches and single records
+# tables, benches, single records, questions and methods
 states:
 	tests/compare/target/release/compare tables $(SEED) $(TABLES)
 	tests/compare/target/release/compare benches $(SEED) $(BENCHES)
 	tests/compare/target/release/compare records $(SEED) $(RECORDS)
+	tests/compare/target/release/compare questions $(SEED) $(QUESTIONS)
 
 # logs in pieces
 feeds:

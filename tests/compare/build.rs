@@ -1,5 +1,5 @@
-//! Links the keeper: the archives of `export_cells`, `export_states`, `export_load` and
-//! `export_feed` in `target/staticlib` of the repository, or in the folder that
+//! Links the keeper: the archives of `export_cells`, `export_states`, `export_load`,
+//! `export_feed` and `export_bench` in `target/staticlib` of the repository, or in the folder that
 //! KEEPER_ARCHIVES names.
 
 use std::env;
@@ -18,6 +18,7 @@ fn main() {
         "export_states",
         "export_load",
         "export_feed",
+        "export_bench",
     ] {
         link(name, &folder, &out);
     }

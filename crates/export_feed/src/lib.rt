@@ -3,6 +3,7 @@
 ghost use mathlib.Core.Path.{_≡_};
 ghost use Rattle.record_feed.specs.Pieces.{numberOf, repliesOf};
 ghost use Rattle.export_feed.specs.Fed.{fedCode, FedIn};
+use basics::word8;
 use keeper_bench::Bench;
 use memory::BYTES;
 use memory::WORDS;
@@ -12,12 +13,9 @@ use record_feed::Answer;
 fn code(answer: Answer) -> u32
     ensures { λ r. ⌜ r ≡ fedCode (numberOf answer) (repliesOf answer) ⌝ }
 {
-    match answer {
-        Answer::Unsound => 21,
-        Answer::Long => 22,
-        Answer::Room => 23,
-        Answer::Taken(k) => 256 * (k as u32),
-    }
+    let number = word8(record_feed::number(answer));
+    let replies = record_feed::count(answer) as u32;
+    number + 256 * replies
 }
 
 // One piece on the memory of a bench, in place.

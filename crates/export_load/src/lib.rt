@@ -2,6 +2,7 @@
 ghost use mathlib.Core.Path.{_≡_};
 ghost use Rattle.table.specs.Answers.{answerOf};
 ghost use Rattle.export_load.specs.Loads.{coded, LoadIs};
+use basics::word8;
 use memory::BYTES;
 use memory::WORDS;
 use table::Answer;
@@ -10,16 +11,9 @@ use table::Answer;
 fn code(answer: Answer) -> u32
     ensures { λ r. ⌜ r ≡ coded (answerOf answer) ⌝ }
 {
-    match answer {
-        Answer::Taken => 0,
-        Answer::Short => 1,
-        Answer::Mark => 2,
-        Answer::Version => 3,
-        Answer::Limits => 4,
-        Answer::Length => 5,
-        Answer::Device(p) => 6 + 256 * (p as u32),
-        Answer::Link(i) => 7 + 256 * (i as u32),
-    }
+    let number = word8(table::number(answer));
+    let index = table::index(answer) as u32;
+    number + 256 * index
 }
 
 // Load a table: the refusal's number and 256 times its index, 0 where it is taken. The bench that is left takes the place of the old.

@@ -22,6 +22,38 @@ pub enum Answer {
     Link(u16),
 }
 
+// Document 01's number of an answer, 0 where the table is taken.
+pub fn number(answer: Answer) -> u8
+    ensures { λ r. ⌜ r ≡ answerOf answer .number ⌝ }
+{
+    match answer {
+        Answer::Taken => 0,
+        Answer::Short => 1,
+        Answer::Mark => 2,
+        Answer::Version => 3,
+        Answer::Limits => 4,
+        Answer::Length => 5,
+        Answer::Device(_) => 6,
+        Answer::Link(_) => 7,
+    }
+}
+
+// The index of a faulty entry, 0 for any other answer.
+pub fn index(answer: Answer) -> u16
+    ensures { λ r. ⌜ r ≡ answerOf answer .index ⌝ }
+{
+    match answer {
+        Answer::Taken => 0,
+        Answer::Short => 0,
+        Answer::Mark => 0,
+        Answer::Version => 0,
+        Answer::Limits => 0,
+        Answer::Length => 0,
+        Answer::Device(p) => p as u16,
+        Answer::Link(i) => i,
+    }
+}
+
 // A parent is none, or lower than the device's own number.
 fn parent_good(p: u8, parent: u8) -> bool
     ensures { λ r. ⌜ r ≡ parentGood p parent ⌝ }

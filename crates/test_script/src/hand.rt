@@ -1,4 +1,4 @@
-// The bench's memory: cells changed by hand, benches compared, one record by the dispatch.
+// The bench's memory: cells changed by hand, one record by the dispatch.
 use crate::texts;
 use crate::texts::say;
 use keeper_bench::Bench;
@@ -9,25 +9,6 @@ use memory::WORDS;
 use record_step::Record;
 use test_words::name_in;
 use test_words::number_in;
-
-fn same_words(a: &[u32], b: &[u32]) -> bool {
-    if a.len() != b.len() {
-        return false;
-    }
-    let mut k: usize = 0;
-    while k < a.len() {
-        if a[k] != b[k] {
-            return false;
-        }
-        k += 1;
-    }
-    true
-}
-
-// The same bench, in every cell.
-pub fn same(a: Bench, b: Bench) -> bool {
-    check::same(&a.bytes, &b.bytes) & same_words(&a.words, &b.words)
-}
 
 // One record by the dispatch.
 pub fn dispatched(b: Bench, r: Record) -> Requested {

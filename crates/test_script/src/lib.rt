@@ -91,7 +91,7 @@ fn saved(play: Play, slots: Slots, line: &[u8]) -> Slots {
 }
 
 fn compare(play: Play, other: Play) -> Play {
-    let bench = hand::same(play.bench, other.bench);
+    let bench = test_same::same(play.bench, other.bench);
     let replies = play.replies == other.replies;
     say(pick(bench, texts::SAME, texts::DIFFERENT));
     say(pick(replies, texts::SAME_REPLIES, texts::OTHER_REPLIES));

@@ -1,15 +1,15 @@
 // Pieces of log.
-ghost use mathlib.Core.Path.{_≡_};
 ghost use Prim.Native.Nat.{_≤_};
 use crate::Play;
-use crate::hand;
 use crate::mixed;
 use crate::show;
-use crate::show::REFUSAL;
 use crate::show::pick;
 use crate::texts;
 use crate::texts::NOTHING;
 use crate::texts::say;
+use basics::long8;
+use basics::long16;
+use basics::wide;
 use keeper::Fed;
 use keeper_bench::Bench;
 use memory::BYTES;
@@ -25,12 +25,6 @@ fn fill(s: &mut [u8]) {
         s[k] = MARK;
         k += 1;
     }
-}
-
-fn wide(x: u16) -> usize
-    ensures { λ r. ⌜ r ≡ x ⌝ }
-{
-    x as usize
 }
 
 fn word(low: u8, high: u8) -> u32
@@ -80,24 +74,16 @@ fn replies(s: &[u8], n: u16, before: u64) -> u64 {
     all
 }
 
-// An answer as a number: how many replies, or a refusal.
-fn answer(a: Answer) -> u32 {
-    match a {
-        Answer::Unsound => REFUSAL + 21,
-        Answer::Long => REFUSAL + 22,
-        Answer::Room => REFUSAL + 23,
-        Answer::Taken(k) => k as u32,
+// Tells an answer: how many replies, none for a refusal.
+fn count(answer: Answer) -> u16 {
+    let number = record_feed::number(answer);
+    let replies = record_feed::count(answer);
+    if number == 0 {
+        show::field(texts::TAKEN, long16(replies));
+    } else {
+        show::field(texts::REFUSED, long8(number));
     }
-}
-
-// How many replies: none for a refusal.
-fn count(answer: u32) -> u16 {
-    if REFUSAL <= answer {
-        show::field(texts::REFUSED, (answer - REFUSAL) as u64);
-        return 0;
-    }
-    show::field(texts::TAKEN, answer as u64);
-    answer as u16
+    replies
 }
 
 // How many bytes are carried, and the three places for them.
@@ -114,7 +100,7 @@ fn carried<'a>(bytes: &'a [u8; BYTES]) {
 // What a piece leaves: the bytes carried, and whether the bench stayed.
 fn left(before: Bench, after: Bench) {
     carried(&after.bytes);
-    say(pick(hand::same(before, after), texts::STAYED, NOTHING));
+    say(pick(test_same::same(before, after), texts::STAYED, NOTHING));
 }
 
 // Whether the buffer after so many replies stayed.
@@ -141,9 +127,9 @@ fn pour(b: Bench, piece: &[u8], room: usize, buffer: &mut [u8]) -> Fed {
 
 // What a piece gave.
 fn told(play: Play, f: Fed, buffer: &[u8]) -> Play {
-    let a = f.answer;
+    let answer = f.answer;
     let after = f.bench;
-    let n = count(answer(a));
+    let n = count(answer);
     let all = replies(buffer, n, play.replies);
     left(play.bench, after);
     rest(buffer, n);

@@ -71,7 +71,7 @@ fn replied(q: Requested, p: u8, other: Requested) {
     let second = other.outcome;
     let b = q.bench;
     let x = reply(outcome);
-    let same = (x == reply(second)) & hand::same(b, other.bench);
+    let same = (x == reply(second)) & test_same::same(b, other.bench);
     show::four(x);
     left(b, p);
     say(pick(same, NOTHING, texts::DIFFER));
@@ -88,7 +88,7 @@ fn told(b: Bench, r: Record, q: Requested) {
     } else {
         replied(q, r.device, hand::dispatched(b, r));
     }
-    say(pick(hand::same(b, q.bench), texts::STAYED, NOTHING));
+    say(pick(test_same::same(b, q.bench), texts::STAYED, NOTHING));
 }
 
 // One record.

@@ -1,27 +1,16 @@
 // Tables and questions.
-use crate::hand;
 use crate::hand::byte_in;
 use crate::show;
 use crate::show::pick;
 use crate::texts;
 use crate::texts::say;
+use basics::long8;
+use basics::long16;
 use keeper_bench::Bench;
 use table::Answer;
+use table::index;
+use table::number;
 use test_words::name_in;
-
-// An answer as a number: document 01's number, 0 where the table is taken, and after it the index of a faulty entry.
-fn number(a: Answer) -> u32 {
-    match a {
-        Answer::Taken => 0,
-        Answer::Short => 65536,
-        Answer::Mark => 131072,
-        Answer::Version => 196608,
-        Answer::Limits => 262144,
-        Answer::Length => 327680,
-        Answer::Device(p) => 393216 + p as u32,
-        Answer::Link(i) => 458752 + i as u32,
-    }
-}
 
 // A table that is taken: what the bench holds.
 fn taken(b: Bench) {
@@ -29,23 +18,22 @@ fn taken(b: Bench) {
     show::field(texts::LINKS, memory::links(&b.words) as u64);
 }
 
-fn refused(x: u32, b: Bench) {
-    show::field(texts::TURNED_AWAY, (x / 65536) as u64);
-    show::field(texts::INDEX, (x % 65536) as u64);
-    let empty = hand::same(b, keeper::empty());
+fn refused(answer: Answer, b: Bench) {
+    show::field(texts::TURNED_AWAY, long8(number(answer)));
+    show::field(texts::INDEX, long16(index(answer)));
+    let empty = test_same::same(b, keeper::empty());
     say(pick(empty, texts::EMPTY, texts::NOT_EMPTY));
 }
 
 // A table loaded.
 pub fn table(t: &[u8]) -> Bench {
     let loaded = keeper::load(t);
-    let a = loaded.answer;
-    let x = number(a);
+    let answer = loaded.answer;
     let bench = loaded.bench;
-    if x == 0 {
+    if number(answer) == 0 {
         taken(bench);
     } else {
-        refused(x, bench);
+        refused(answer, bench);
     }
     bench
 }

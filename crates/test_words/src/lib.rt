@@ -5,6 +5,7 @@ ghost use Prim.Native.Nat.{_+_, _*_, _%_, _<_, _≤_};
 ghost use lib.ListN.{length, getD, drop};
 ghost use Rattle.test_words.specs.Words.{stops, Scanned, Word, wordIn, Placed};
 ghost use Rattle.test_words.specs.Numbers.{digitOf, joined, valueAfter, minus, numberOf, hexByte, allHex};
+use basics::word8;
 
 // What stands for a number that cannot be read: one more than the greatest.
 pub const WRONG: u32 = 65536;
@@ -92,12 +93,6 @@ pub fn digit(b: u8) -> u8
     16
 }
 
-fn wide(x: u8) -> u32
-    ensures { λ r. ⌜ r ≡ x ⌝ }
-{
-    x as u32
-}
-
 // A number with a decimal digit after it; WRONG where that is no digit, or the number too large.
 fn joined(v: u32, d: u8) -> u32
     requires { ⌜ v ≤ 65536 ⌝ }
@@ -106,7 +101,7 @@ fn joined(v: u32, d: u8) -> u32
     if 9 < d {
         return WRONG;
     }
-    let x = 10 * v + wide(d);
+    let x = 10 * v + word8(d);
     if WRONG < x {
         return WRONG;
     }
@@ -219,8 +214,8 @@ fn member(group: &[u8], step: &[u8], k: usize, c: u32) -> u8
     requires { ⌜ k < 9223372036854775807 ⌝ }
     ensures { λ r. ⌜ r ≡ (hexByte (now (group .entry)) k + (c % 256) * hexByte (now (step .entry)) k) % 256 ⌝ }
 {
-    let first = wide(hex_byte(group, k));
-    let more = wide(hex_byte(step, k));
+    let first = word8(hex_byte(group, k));
+    let more = word8(hex_byte(step, k));
     ((first + (c % 256) * more) % 256) as u8
 }
 

@@ -28,6 +28,8 @@ extern "C" {
     fn keeper_set_status(bytes: &mut Bytes, words: &mut Words, p: u8, v: u8);
     fn keeper_sound(bytes: &Bytes, words: &Words) -> bool;
     fn keeper_step(bytes: &mut Bytes, words: &mut Words, kind: u8, device: u8, value: u16) -> u32;
+    fn keeper_ask(bytes: &Bytes, words: &Words, question: u8, p: u8, q: u8) -> u64;
+    fn keeper_request(bytes: &mut Bytes, words: &mut Words, kind: u8, p: u8, v: u16) -> u32;
     fn keeper_load(
         table: *const u8,
         table_length: usize,
@@ -104,6 +106,22 @@ impl Memory {
         let value = u16::from_le_bytes([low, high]);
         // SAFETY: see above.
         let reply = unsafe { keeper_step(&mut self.bytes, &mut self.words, kind, device, value) };
+        reply.to_le_bytes()
+    }
+
+    /// A question by its number: 256 times what is told, or the number of the refusal.
+    pub fn ask(&self, question: u8, device: u8, other: u8) -> u64 {
+        // SAFETY: see above.
+        unsafe { keeper_ask(&self.bytes, &self.words, question, device, other) }
+    }
+
+    /// The method of a record's kind: its reply, 21 alone for a bench that isn't sound.
+    pub fn request(&mut self, record: [u8; 4]) -> [u8; 4] {
+        let [kind, device, low, high] = record;
+        let value = u16::from_le_bytes([low, high]);
+        // SAFETY: see above.
+        let reply =
+            unsafe { keeper_request(&mut self.bytes, &mut self.words, kind, device, value) };
         reply.to_le_bytes()
     }
 

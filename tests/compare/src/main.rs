@@ -4,8 +4,10 @@
 //! `compare benches SEED COUNT` asks both about random benches,
 //! `compare records SEED COUNT` gives both random logs, a record at a time, from
 //! so many random benches; `compare feed SEED COUNT` gives them so many logs in
-//! random pieces. It ends with status 1 at the first difference, and where the
-//! logs of 200 benches or more leave out an answer of document 01.
+//! random pieces; `compare questions SEED COUNT` asks every question and calls
+//! every method on so many random benches and on damaged ones. It ends with
+//! status 1 at the first difference, and where 200 benches or more leave out an
+//! answer of document 01.
 //! `compare bench` times both.
 
 mod answers;
@@ -15,6 +17,7 @@ mod feed;
 mod keeper;
 mod layout;
 mod logs;
+mod questions;
 mod records;
 mod speed;
 mod starts;
@@ -30,7 +33,9 @@ fn main() -> ExitCode {
         return ExitCode::FAILURE;
     }
     let Some(outcome) = outcome(&words) else {
-        eprintln!("usage: compare tables|benches|records|feed SEED COUNT, or compare bench");
+        eprintln!(
+            "usage: compare tables|benches|records|questions|feed SEED COUNT, or compare bench"
+        );
         return ExitCode::from(2);
     };
     match outcome {
@@ -60,6 +65,7 @@ fn outcome(words: &[&str]) -> Option<Result<String, String>> {
         ),
         "benches" => Some(benches::compare(seed, count)),
         "records" => Some(records::compare(seed, count)),
+        "questions" => Some(questions::compare(seed, count)),
         "feed" => Some(feed::compare(seed, count)),
         _ => None,
     }

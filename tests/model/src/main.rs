@@ -15,6 +15,10 @@ const USES: &[(&str, &[&str])] = &[
     ("Requests", &["enable", "disable", "get", "put", "suspendTest", "askSuspend", "idle", "suspend", "barred", "othersBarred", "askResume", "wake", "getWake", "putIdle", "running", "parentDown", "supplierDown", "setActive", "needed", "setSuspended", "ignoreChildren"]),
     ("Steps", &["idleResult", "suspendResult", "goOn", "resumeResult", "result", "request", "resultStep", "busy", "recordStep", "byteStep", "run", "repliesIn"]),
     ("SoundTest", &["columnTest", "tableTest", "sameTest", "parentSupplies", "linkSupplies", "supplyTest", "keptTest", "carriedTest", "steadyTest", "allSteady", "othersSteady", "membersClear", "noneTest", "suspendOpenTest", "resumeOpenTest", "idleOpenTest", "callbackTest", "soundTest"]),
+    ("Feed", &["pieceAnswer", "feedAnswer", "feedOf"]),
+    ("Questions", &["told", "climb", "parentsAbove"]),
+    ("Methods", &["requested"]),
+    ("Demand3", &["effective", "counted"]),
 ];
 
 /// How many words a state has.
@@ -26,6 +30,20 @@ fn list(numbers: &[u64]) -> String {
         write!(text, "{number} ∷ ").expect("a string takes it");
     }
     text + "[])"
+}
+
+/// A number of zeros, or the bytes.
+fn piece(text: &str) -> String {
+    match text.strip_prefix("0*") {
+        Some(count) => format!("(pad {count} [])"),
+        None => list(&bytes(text)),
+    }
+}
+
+/// An answer to a question.
+fn told(text: &str) -> String {
+    let (number, value) = text.split_once(':').expect("a number and a value");
+    format!("record {{ number = {number}; value = {value} }}")
 }
 
 fn bytes(hex: &str) -> Vec<u64> {
@@ -66,11 +84,36 @@ fn claim(line: &str) -> String {
             let table = list(&bytes(words[1]));
             format!("loadOf {table} .answer ≡ record {{ number = {}; index = {} }}", words[2], words[3])
         }
-        "run" => after(&format!("(loadOf {} .state)", list(&bytes(words[1]))), words[2], words[3], &words[4..]),
+        "run" => {
+            let end = &words[5..];
+            let (start, log) = (list(&bytes(words[1])), list(&bytes(words[2])));
+            let (replies, counts) = (list(&bytes(words[3])), list(&numbers(words[4])));
+            format!("played {} (run (loadOf {start} .state) {log}) ≡ ({replies}, {counts}, {})", field(end, "n"), state(end))
+        }
         "from" => after(&state(&words[1..=STATE_WORDS]), words[STATE_WORDS + 1], words[STATE_WORDS + 2], &words[STATE_WORDS + 3..]),
         "sound" => {
             let verdict = if words[STATE_WORDS + 1] == "1" { "true" } else { "false" };
             format!("soundTest {} ≡ {verdict}", state(&words[1..=STATE_WORDS]))
+        }
+        "feed" => {
+            let [bytes_in, buffer, number, replies, left] = words[STATE_WORDS + 1..STATE_WORDS + 6] else { panic!("a piece") };
+            let piece = format!("record {{ bytes = {}; buffer = {} }}", piece(bytes_in), list(&bytes(buffer)));
+            let fed = format!("number = {number}; replies = {replies}; state = {}; buffer = {}", state(&words[STATE_WORDS + 6..]), list(&bytes(left)));
+            format!("feedOf {} ({piece}) ≡ record {{ {fed} }}", state(&words[1..=STATE_WORDS]))
+        }
+        "ask" => {
+            let [device, other] = words[STATE_WORDS + 1..STATE_WORDS + 3] else { panic!("two devices") };
+            let answers: Vec<String> = words[STATE_WORDS + 3..].iter().map(|answer| told(answer)).collect();
+            format!("asked {} {device} {other} ≡ ({} ∷ [])", state(&words[1..=STATE_WORDS]), answers.join(" ∷ "))
+        }
+        "request" => {
+            let [record, number, reply] = words[STATE_WORDS + 1..STATE_WORDS + 4] else { panic!("a record") };
+            let four = |last: &str, hex: &str| match bytes(hex)[..] {
+                [kind, device, low, high] => format!("record {{ kind = {kind}; device = {device}; {last} = {} }}", low + 256 * high),
+                _ => panic!("four bytes"),
+            };
+            let requested = format!("number = {number}; reply = {}; state = {}", four("code", reply), state(&words[STATE_WORDS + 4..]));
+            format!("requested {} ({}) ≡ record {{ {requested} }}", state(&words[1..=STATE_WORDS]), four("value", record))
         }
         other => panic!("no such case: {other}"),
     }
@@ -84,7 +127,9 @@ fn header() -> String {
         "use mathlib.Core.List.{List, [], _∷_}\n",
         "use Prim.Native.Nat.{ℕ, zero, suc}\n",
         "use Rattle.model.specs.State.{State}\n",
-        "use Rattle.model.specs.Steps.{Run}\n",
+        "use Rattle.model.specs.Steps.{Exchange, Run}\n",
+        "use Rattle.model.specs.Questions.{Told, tellStatus, tellHolds, tellUsage, tellChildren, tellWake, tellAbove}\n",
+        "use Rattle.model.specs.Demand3.{isGet, isPut}\n",
     ));
     for (module, names) in USES {
         writeln!(text, "use Rattle.model.specs.{module}.{{{}}}", names.join(", ")).expect("a string takes it");
@@ -100,12 +145,15 @@ fn header() -> String {
         "      carry = record { bytes = b; used = u };\n",
         "    }\n",
         "\noutcome : Run → List ℕ × State\noutcome r = (repliesIn (r .log), r .state)\n",
+        "\ncounts : ℕ → ℕ → List Exchange → List ℕ\ncounts zero q log = []\ncounts (suc k) q log = counted isGet q log ∷ counted isPut q log ∷ counts k (suc q) log\n",
+        "\nplayed : ℕ → Run → List ℕ × List ℕ × State\nplayed n r = (repliesIn (r .log), counts n 0 (r .log), r .state)\n",
+        "\nasked : State → ℕ → ℕ → List Told\nasked s p q = tellStatus s p ∷ tellHolds s p ∷ tellUsage s p ∷ tellChildren s p ∷ tellAbove s p ∷ tellWake s p q ∷ []\n",
     )
 }
 
 fn main() -> io::Result<()> {
     let unfolding: Vec<&str> = USES.iter().flat_map(|(_, names)| names.iter().copied()).collect();
-    let unfolding = format!("unfolding pad bench outcome {}", unfolding.join(" "));
+    let unfolding = format!("unfolding pad bench outcome counts played asked {}", unfolding.join(" "));
     let mut out = io::BufWriter::new(io::stdout().lock());
     out.write_all(header().as_bytes())?;
     for (at, line) in io::stdin().lock().lines().enumerate() {

@@ -5,6 +5,7 @@
 //! the error is the *runtime error*.
 
 mod bench;
+mod count;
 mod feed;
 pub mod generate;
 mod question;
@@ -18,6 +19,7 @@ mod wake;
 mod tests;
 
 pub use bench::*;
+pub use count::counted;
 pub use feed::MAX_PIECE;
 pub use record::{FINISHED, REFUSED};
 pub use set::Set;

@@ -37,6 +37,14 @@ impl Bench {
         Keeper::new(self, sets).record(record)
     }
 
+    /// Document 01: a request by itself. 21 for a bench that isn't sound, which stays as it is.
+    pub fn request(&mut self, record: [u8; 4]) -> Result<[u8; 4], u8> {
+        if !self.sound() {
+            return Err(21);
+        }
+        Ok(self.record(record))
+    }
+
     /// Document 01: the suspend test. The code of the first fault, if any.
     pub(crate) fn suspend_test(&self, device: usize) -> Option<i16> {
         if self.error[device] != 0 {

@@ -295,6 +295,27 @@ fn questions_refuse() {
 }
 
 #[test]
+fn request_alone_refuses() {
+    let mut bench = day_bench();
+    assert_eq!(bench.request([1, 2, 0, 0]), Ok([0, 2, 0, 0]));
+    assert_eq!(bench.depth[2], 0);
+    bench.n = 65;
+    let unsound = bench.clone();
+    assert_eq!(bench.request([1, 1, 0, 0]), Err(21));
+    assert_eq!(bench, unsound);
+}
+
+#[test]
+fn day_counts() {
+    let counts = [0, 1, 2].map(|device| counted(&day_log(), &day_replies(), device));
+    assert_eq!(counts, [(0, 0), (0, 0), (1, 1)]);
+    // A put that overflows and one that finds a callback open.
+    let log = [[5, 2, 0, 0], [6, 2, 0, 0], [4, 2, 1, 0]].concat();
+    let replies = [[0, 2, 0xB5, 0xFF], [0, 2, 0x8D, 0xFF], [4, 2, 13, 0]].concat();
+    assert_eq!(counted(&log, &replies, 2), (0, 0));
+}
+
+#[test]
 fn usage_count_passes_16_bits() {
     let mut bench = day_bench();
     for device in 0..3 {

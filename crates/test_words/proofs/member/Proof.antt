@@ -7,13 +7,13 @@ use Rattle.test_words.proofs.member.Statement.{statement}
 use Rattle.test_words.proofs.member.Tie as tie
 
 -- the start
-abbrev start : tie.After-wide2 → tie.Start
+abbrev start : tie.After-word82 → tie.Start
 start c =
     let first = c .before .before in
     first .before .before .before .before
 
 -- the product of the two bytes
-product : (c : tie.After-wide2) → (start c .args .c % 256) * c .wide2 .result ≤ 65025
+product : (c : tie.After-word82) → (start c .args .c % 256) * c .word82 .result ≤ 65025
 product c = small (omega arith) (omega arith)
 
 mul-result : tie.Need-mul-result
@@ -26,7 +26,7 @@ add-result c = omega (arith, product c)
 returns : tie.Need-returns
 returns c =
     let first = c .before .before in
-    rw (first .wide .ensures, first .before .hex-byte .ensures) (rw (c .wide2 .ensures, c .before .hex-byte2 .ensures))
+    rw (first .word8 .ensures, first .before .hex-byte .ensures) (rw (c .word82 .ensures, c .before .hex-byte2 .ensures))
 
 pub member-spec : {M : Type 1} → statement M
 member-spec =

@@ -1,5 +1,6 @@
-//! The lines: load, run, from and sound.
+//! The lines: load, run, from, sound, and those of one call.
 
+use super::calls::{ask_line, feed_line, request_line};
 use super::damage::{changed, damaged};
 use super::hosts::{any_host, Host, Session};
 use super::random::Random;
@@ -7,15 +8,19 @@ use super::tables;
 use super::tally::Tally;
 use super::text::{hex, state};
 use crate::bench::*;
+use crate::count::counted;
 use crate::table::{load, Refusal};
 
 /// One random case, complete by itself.
 pub fn line(random: &mut Random, tally: &mut Tally) -> String {
     match random.below(100) {
-        0..=29 => load_line(random, tally),
-        30..=64 => run_line(random, tally),
-        65..=84 => from_line(random, tally),
-        _ => sound_line(random, tally),
+        0..=17 => load_line(random, tally),
+        18..=36 => run_line(random, tally),
+        37..=48 => from_line(random, tally),
+        49..=58 => sound_line(random, tally),
+        59..=77 => feed_line(random, tally),
+        78..=88 => ask_line(random, tally),
+        _ => request_line(random, tally),
     }
 }
 
@@ -54,16 +59,21 @@ fn run_line(random: &mut Random, tally: &mut Tally) -> String {
     let mut session = Session::new(bench, tally);
     let records = random.from_to(20, 53);
     play(random, &mut session, records);
+    let counts: Vec<String> = (0..session.bench.n)
+        .map(|device| counted(&session.log, &session.replies, device))
+        .map(|(gets, puts)| format!("{gets},{puts}"))
+        .collect();
     let (log, replies) = (hex(&session.log), hex(&session.replies));
     format!(
-        "run {} {log} {replies} {}",
+        "run {} {log} {replies} {} {}",
         hex(&table),
+        counts.join(","),
         state(&session.bench)
     )
 }
 
 /// A bench that a log of no concern has led to.
-fn reached(random: &mut Random) -> Bench {
+pub fn reached(random: &mut Random) -> Bench {
     let (_, bench) = fresh(random, 9);
     let mut unheard = Tally::default();
     let mut session = Session::new(bench, &mut unheard);

@@ -1,5 +1,6 @@
 //! Random cases, a line each, and a tally of what occurs in them.
 
+pub mod calls;
 pub mod damage;
 pub mod hosts;
 pub mod lines;
