@@ -8,14 +8,15 @@ use lib.Dec.{eqb}
 use borrow.Author.Tests.{eq-eqb, ne-eqb, lt-ltb, le-ltb}
 use Rattle.model.specs.Limits.{EINPROGRESS, minus}
 use Rattle.model.specs.State.{State}
-use Rattle.model.specs.Records.{Rec, RESULT, finished, refused, allowed, fault}
+use Rattle.model.specs.Records.{Rec, RESULT, finished, refused, fault}
 use Rattle.model.specs.Steps.{result, suspendResult, resumeResult, idleResult, resultStep, request, busy, recordStep}
 use Rattle.model.proofs.Steps.{Formed, formed}
+use Rattle.record_request.specs.Dispatch.{Requested}
 use Rattle.record_step.specs.declared.CallbackKind.{CallbackKind}
 use Rattle.record_step.specs.declared.CallbackKind.the-variants.{Suspend, Resume, Idle}
 use Rattle.record_step.specs.declared.Callback.{Callback}
 use Rattle.record_step.specs.declared.Callback.the-variants.{None, Open}
-use Rattle.record_step.specs.Records.{openedAs, openIn, Requested}
+use Rattle.record_step.specs.Records.{openedAs, openIn}
 
 -- ---- a record by what the code learnt: how many devices there are, and the fault
 module _ (s : State) (r : Rec) {n f : ℕ} (many : n ≡ s .wiring .n) (told : f ≡ fault n r) where
@@ -45,14 +46,6 @@ module _ (s : State) (r : Rec) {n f : ℕ} (many : n ≡ s .wiring .n) (told : f
       pub record-asks : busy s (r .kind) ≡ false → recordStep s r ≡ request s (r .kind) (r .device) (r .value)
       unfolding recordStep if_then_else_
       record-asks o = rw (fault-is, le-ltb 0 f fine, ne-eqb (r .kind) RESULT ne, o)
-
--- a kind from k on that is not k
-pub past : {k kind : ℕ} → k ≤ kind → (kind ≡ k → ⊥) → suc k ≤ kind
-past h ne = omega (arith, ne)
-
--- kind 12 is what is left of the requests after 1 to 11
-pub last-allowed : (kind v : ℕ) → Requested kind v → 12 ≤ kind → allowed 12 v ≡ true
-last-allowed kind v g l = let e : kind ≡ 12 = (let h = g .high in omega (arith, g .other)) in rw e at (g .fits)
 
 -- ---- the open callback from its number
 abbrev numberOf : Callback → ℕ

@@ -2,13 +2,13 @@
 use mathlib.Core.Path.{_≡_}
 use mathlib.Core.Bool.{Bool, true, false}
 use mathlib.Core.List.{List, _∷_, []}
-use Prim.Native.Nat.{ℕ, _<_, _≤_}
+use Prim.Native.Nat.{ℕ}
 use lib.Dec.{eqb}
 use lib.IntN.{pos, negsuc}
 use Rattle.model.specs.Logic.{if_then_else_}
 use Rattle.model.specs.State.{State}
-use Rattle.model.specs.Records.{Rec, Bounds, LAST, RESULT, allowed}
-use Rattle.model.specs.Steps.{request, recordStep}
+use Rattle.model.specs.Records.{Rec}
+use Rattle.model.specs.Steps.{recordStep}
 use Rattle.memory.specs.Layout.{stateIn}
 use Rattle.memory.specs.Ready.{Full}
 use Rattle.links.specs.Firsts.{Indexed}
@@ -51,20 +51,7 @@ abbrev pub openIn : State → Callback
 openIn s = openedAs (s .callback .kind) (s .callback .asked) (s .callback .target)
 
 -- ---- promises
--- a request: a kind that is no result, with a value that it allows
-pub record Requested (kind v : ℕ) : Type 0 where
-  pub low : 1 ≤ kind
-  pub high : kind ≤ LAST
-  pub other : kind ≡ RESULT → ⊥
-  pub fits : allowed kind v ≡ true
-
-pub record RequestLeads (kind v : ℕ) (first bytes₀ words₀ : List ℕ) (p : ℕ) (bytes words : List ℕ) (r : Reply) : Type 0 where
-  pub is : Requested kind v → Indexed (stateIn bytes₀ words₀) first → p < stateIn bytes₀ words₀ .wiring .n
-      → request (stateIn bytes₀ words₀) kind p v ≡ record { state = stateIn bytes words; reply = replyOf r }
-  pub stays : Full (stateIn bytes₀ words₀) → Stays bytes₀ words₀ bytes words
-
--- a whole record, from a ready state whose links the index is of; from any
--- other, where all cells are there, nothing fixed changes
+-- a whole record, from a ready state whose links the index is of; from any other, where all cells are there, nothing fixed changes
 pub record Stepped (first bytes₀ words₀ : List ℕ) (r : Rec) (bytes words : List ℕ) (reply : Reply) : Type 0 where
   pub is : Indexed (stateIn bytes₀ words₀) first → recordStep (stateIn bytes₀ words₀) r ≡ record { state = stateIn bytes words; reply = replyOf reply }
   pub stays : Full (stateIn bytes₀ words₀) → Stays bytes₀ words₀ bytes words

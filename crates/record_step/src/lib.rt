@@ -9,7 +9,7 @@ ghost use Rattle.model.specs.Records.{LAST, kindOf, signed, allowed, fault};
 ghost use Rattle.model.specs.Steps.{resultStep, busy};
 ghost use Rattle.memory.specs.Layout.{stateIn};
 ghost use Rattle.request_answer.specs.Promises.{LeadsBy};
-ghost use Rattle.record_step.specs.Records.{recOf, openIn, RequestLeads, Stepped};
+ghost use Rattle.record_step.specs.Records.{recOf, openIn, Stepped};
 use links::FIRSTS;
 use memory::BYTES;
 use memory::WORDS;
@@ -237,33 +237,6 @@ fn busy<'a>(bytes: &'a [u8; BYTES], kind: u8) -> bool
     !ALWAYS[kind as usize]
 }
 
-// A request: one line for each kind.
-fn request<'a>(
-    bytes: &mut [u8; BYTES],
-    words: &mut [u32; WORDS],
-    first: &'a [u16; FIRSTS],
-    kind: u8,
-    p: u8,
-    v: u16,
-) -> Reply
-    ensures { λ r. ⌜ RequestLeads kind v (now (first .entry)) (now (bytes .entry)) (now (words .entry)) p (now (bytes .exit)) (now (words .exit)) r ⌝ }
-{
-    match kind {
-        1 => finished(p, request_hold::enable(bytes, p)),
-        2 => finished(p, request_hold::disable(bytes, p)),
-        3 => finished(p, request_hold::get(words, p)),
-        4 => request_wake::get_wake(bytes, words, first, p),
-        5 => finished(p, request_hold::put(words, p)),
-        6 => request_suspend::put_idle(bytes, words, p),
-        7 => request_suspend::idle(bytes, words, p),
-        8 => request_suspend::suspend(bytes, words, first, p),
-        9 => request_wake::wake(bytes, words, first, p),
-        10 => request_set::set_active(bytes, words, first, p),
-        11 => request_set::set_suspended(bytes, words, first, p),
-        _ => request_set::ignore_children(bytes, p, v),
-    }
-}
-
 // One record: the reply to it. A refused record changes nothing.
 pub fn step<'a>(
     bytes: &mut [u8; BYTES],
@@ -286,5 +259,5 @@ pub fn step<'a>(
     if busy(bytes, kind) {
         return finished(p, EINPROGRESS);
     }
-    request(bytes, words, first, kind, p, v)
+    record_request::request(bytes, words, first, kind, p, v)
 }

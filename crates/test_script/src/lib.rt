@@ -127,8 +127,8 @@ fn told(play: Play, k: usize, line: &[u8]) -> Play {
 // The commands on one bench, with the bytes that stand in the line.
 fn done(play: Play, k: usize, line: &[u8], s: &[u8]) -> Play {
     match k {
-        1..=13 => record::one(play, record::named(k, line)),
-        14 => record::one(play, record::raw(s)),
+        1..=13 => record::named(play, k, line),
+        14 => record::raw(play, s),
         15 => piece::feed(play, test_words::number_in(line, 1), s),
         16 => fresh(tell::table(s)),
         17 => fresh(keeper::empty()),
@@ -138,24 +138,26 @@ fn done(play: Play, k: usize, line: &[u8], s: &[u8]) -> Play {
 }
 
 // So many bytes of a buffer, none where they could not be read.
-fn read(count: usize, wanted: bool) -> usize
+fn read(count: usize) -> usize
     ensures { λ r. ⌜ r ≤ 65536 ⌝ }
 {
     if count <= 65536 {
         return count;
     }
-    say(pick(wanted, texts::NO_BYTES, NOTHING));
     0
 }
 
-// The same, with the bytes read: they stand after the first word, in a line of `feed` after the second.
+// The same, with the bytes read: they stand after the first word, in a line of `feed` after the second. A command that needs bytes is
+// not done where they cannot be read.
 fn act(play: Play, k: usize, line: &[u8]) -> Play {
     let mut s = io::large_buffer();
     let from = pick(k == 15, 2, 1);
-    let n = read(
-        test_words::bytes_in(line, from, &mut s),
-        (13 < k) & (k < 17),
-    );
+    let count = test_words::bytes_in(line, from, &mut s);
+    if (65536 < count) & (13 < k) & (k < 17) {
+        say(texts::NO_BYTES);
+        return play;
+    }
+    let n = read(count);
     done(play, k, line, &s[0..n])
 }
 

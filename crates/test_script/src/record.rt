@@ -92,7 +92,7 @@ fn told(b: Bench, r: Record, q: Requested) {
 }
 
 // One record.
-pub fn one(play: Play, r: Record) -> Play {
+fn one(play: Play, r: Record) -> Play {
     let before = play.bench;
     let q = requested(before, r);
     told(before, r, q);
@@ -104,28 +104,36 @@ pub fn one(play: Play, r: Record) -> Play {
     }
 }
 
-// A record by its kind, its device and its value.
-pub fn named(kind: usize, line: &[u8]) -> Record {
+// A record by its kind, its device and its value, if these are numbers.
+pub fn named(play: Play, kind: usize, line: &[u8]) -> Play {
     let device = number_in(line, 1);
     let value = number_in(line, 2);
-    say(pick((device < 256) & (value < 65536), NOTHING, texts::NO_NUMBER));
-    Record {
+    if (255 < device) | (65535 < value) {
+        say(texts::NO_NUMBER);
+        return play;
+    }
+    let r = Record {
         kind: (kind % 256) as u8,
         device: (device % 256) as u8,
         value: (value % 65536) as u16,
-    }
+    };
+    one(play, r)
 }
 
 fn word(low: u8, high: u8) -> u16 {
     (low as u16) + 256 * (high as u16)
 }
 
-// A record by its bytes.
-pub fn raw(s: &[u8]) -> Record {
-    say(pick(s.len() == 4, NOTHING, texts::NO_BYTES));
-    Record {
+// A record by its bytes, if they are four.
+pub fn raw(play: Play, s: &[u8]) -> Play {
+    if s.len() != 4 {
+        say(texts::NO_BYTES);
+        return play;
+    }
+    let r = Record {
         kind: byte_at(s, 0),
         device: byte_at(s, 1),
         value: word(byte_at(s, 2), byte_at(s, 3)),
-    }
+    };
+    one(play, r)
 }

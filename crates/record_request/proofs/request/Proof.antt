@@ -5,11 +5,11 @@ use Rattle.model.specs.State.{State}
 use Rattle.model.specs.Steps.{request}
 use Rattle.memory.specs.Layout.{stateIn}
 use Rattle.request_hold.proofs.Chained.{enable-stays, disable-stays, get-stays, put-stays}
-use Rattle.record_step.proofs.Stepping.{past, last-allowed}
-use Rattle.record_step.proofs.Staying.{idle-stays, put-idle-stays}
+use Rattle.record_request.proofs.Dispatching.{past, last-allowed}
+use Rattle.record_request.proofs.Staying.{idle-stays, put-idle-stays}
 use borrow.Author.Needs.{needs}
-use Rattle.record_step.proofs.request.Statement.{statement}
-use Rattle.record_step.proofs.request.Tie as tie
+use Rattle.record_request.proofs.request.Statement.{statement}
+use Rattle.record_request.proofs.request.Tie as tie
 
 -- the state at the start
 abbrev at-start : tie.Start → State
