@@ -13,6 +13,7 @@ BENCHES ?= 2000
 RECORDS ?= 30000
 QUESTIONS ?= 600
 FEEDS ?= 100000
+UNPROVED := $(CURDIR)/target/unproved
 # one core for the times, where that can be asked for
 PIN := $(shell command -v taskset > /dev/null && echo taskset -c 0)
 
@@ -32,9 +33,9 @@ run: replay
 # is proved, and a crate that has not changed is not proved again.
 replay:
 	@echo "step 1 of 3: proving the keeper and the program, crate by crate (some three minutes on two cores)"
-	@rt check keeper replay_report 2>&1 | grep --line-buffered -E '^rt:| error: '
+	@rt check replay_log 2>&1 | grep --line-buffered -E '^rt:| error: '
 	@echo "step 2 of 3: building the proved library"
-	@rt staticlib replay_files 2>&1 | grep --line-buffered -E '^rt:| error: '
+	@rt staticlib replay_program 2>&1 | grep --line-buffered -E '^rt:| error: '
 	@echo "step 3 of 3: building the program"
 	@cd host && cargo build --release --offline --quiet
 
@@ -44,15 +45,17 @@ scripts:
 	target/bin/test_records < crates/test_records/stdin
 	target/bin/test_pieces < crates/test_pieces/stdin
 
-# What the checks run is proved and built first. The checks run two at a time. The toolchain's verdict proves everything anew.
+# What the checks run is compiled without a proof, by the same back end; the toolchain's verdict then proves the same files. The checks run
+# two at a time.
 test: listed
 	$(MAKE) -j2 --output-sync=target built second
 	$(MAKE) -j2 --output-sync=target feeds sample states replayed
 	rt ci
 
 built:
-	$(MAKE) harness
-	$(MAKE) replay
+	tests/archives $(UNPROVED) export_cells export_states export_load export_feed export_bench replay_program
+	cd tests/compare && KEEPER_ARCHIVES=$(UNPROVED) cargo build --release --offline --quiet
+	cd host && KEEPER_ARCHIVES=$(UNPROVED) cargo build --release --offline --quiet
 
 # every folder of crates/ stands in crates.txt
 listed:

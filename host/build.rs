@@ -1,5 +1,6 @@
-//! Links the proved program: `target/staticlib/libreplay_files.a` of the
-//! repository, and the toolchain's C code for arguments and errno.
+//! Links the program: `libreplay_program.a` in `target/staticlib` of the
+//! repository, or in the folder that KEEPER_ARCHIVES names, and the toolchain's
+//! C code for arguments and errno.
 
 use std::env;
 use std::fs;
@@ -31,10 +32,13 @@ fn take(archive: &Path, out: &Path, hint: &str) {
 fn main() {
     let package = PathBuf::from(env::var_os("CARGO_MANIFEST_DIR").expect("cargo sets it"));
     let out = PathBuf::from(env::var_os("OUT_DIR").expect("cargo sets it"));
+    println!("cargo:rerun-if-env-changed=KEEPER_ARCHIVES");
+    let folder = env::var_os("KEEPER_ARCHIVES")
+        .map_or_else(|| package.join("../target/staticlib"), PathBuf::from);
     take(
-        &package.join("../target/staticlib/libreplay_files.a"),
+        &folder.join("libreplay_program.a"),
         &out,
-        "`rt staticlib replay_files` makes it",
+        "`rt staticlib replay_program` makes it",
     );
     take(
         &toolchain().join("lib/libos_c.a"),
@@ -42,6 +46,6 @@ fn main() {
         "it is part of the toolchain",
     );
     println!("cargo:rustc-link-search=native={}", out.display());
-    println!("cargo:rustc-link-lib=static=replay_files");
+    println!("cargo:rustc-link-lib=static=replay_program");
     println!("cargo:rustc-link-lib=static=os_c");
 }

@@ -1,5 +1,5 @@
 // A piece of log on the memory of a bench, for the tests to call. It is a library of its own: with one caller of the dispatch in it,
-// the compiler makes the loop and the dispatch one piece of code, as in `replay_files`.
+// the compiler makes the loop and the dispatch one piece of code, as in `replay_program`.
 ghost use mathlib.Core.Path.{_≡_};
 ghost use Rattle.record_feed.specs.Pieces.{numberOf, repliesOf};
 ghost use Rattle.export_feed.specs.Fed.{fedCode, FedIn};

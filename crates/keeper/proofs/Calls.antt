@@ -54,7 +54,7 @@ first-met cs zero m = tt
 first-met [] (suc k) m = tt
 first-met (c ∷ cs) (suc k) m = (m .0, first-met cs k (m .1))
 
-agreed : (l : LoadCall) → LoadMet l → answerOf (l .result .answer) .number ≡ 0 → (cs : List FeedCall) → Linked (l .result .bench) cs → AllMet cs → Agreed (l .table) (l .result .bench) cs
+pub agreed : (l : LoadCall) → LoadMet l → answerOf (l .result .answer) .number ≡ 0 → (cs : List FeedCall) → Linked (l .result .bench) cs → AllMet cs → Agreed (l .table) (l .result .bench) cs
 agreed l h e cs i m =
     let b = l .result .bench in
     let z : stateOf b ≡ loadOf (l .table) .state = ap (λ x. x .state) h in

@@ -1,9 +1,10 @@
 // The program's arguments.
+use crate::files;
 use replay_text::size::MOST;
 use replay_text::size::Size;
 
 // The size of the pieces: argument 4, or 4,096 where there are three arguments.
-pub fn size() -> Size {
+fn size() -> Size {
     let count = os::arg_count();
     if count == 4 {
         return Size::Bytes(MOST);
@@ -36,9 +37,22 @@ fn written_over(i: usize) -> bool {
 }
 
 // Whether REPLIES has the name of TABLE or of LOG, which writing it would empty.
-pub fn overwrites() -> bool {
+fn overwrites() -> bool {
     if written_over(1) {
         return true;
     }
     written_over(2)
+}
+
+// The size of the pieces; says what is wrong with the arguments.
+pub fn read() -> Size {
+    let Size::Bytes(size) = size() else {
+        files::say(b"usage: replay TABLE LOG REPLIES [PIECE], PIECE from 1 to 4096\n");
+        return Size::Wrong;
+    };
+    if overwrites() {
+        files::say(b"replay: REPLIES has the name of a file to read\n");
+        return Size::Wrong;
+    }
+    Size::Bytes(size)
 }

@@ -1,10 +1,8 @@
 // What is written to standard output.
-ghost use mathlib.Core.Path.{_≡_};
-ghost use Rattle.keeper_bench.specs.Translate.{stateOf};
-ghost use Rattle.replay_files.specs.Devices.{deviceLine};
 use crate::files;
 use keeper_bench::Bench;
-use replay_report::Row;
+use replay_pieces::lines;
+use replay_pieces::turn::Progress;
 use replay_text::line::Line;
 
 // Writes a line and answers whether it could.
@@ -28,32 +26,13 @@ pub fn stopped(number: u8) {
     put(libc::STDERR_FILENO, replay_report::stopped(number));
 }
 
-// The line of device p.
-fn device(bench: Bench, p: u8) -> Line
-    ensures { λ r. ⌜ r ≡ deviceLine (stateOf bench) p ⌝ }
-{
-    let bytes = bench.bytes;
-    let words = bench.words;
-    replay_report::device(
-        p,
-        Row {
-            status: memory::status(&bytes, p),
-            holds: memory::holds(&words, p),
-            linked: memory::linked(&words, p),
-            children: memory::children(&bytes, p),
-            depth: memory::depth(&bytes, p),
-            error: memory::error(&words, p),
-        },
-    )
-}
-
 // The lines of all devices.
 fn devices(bench: Bench) -> bool {
     let bytes = bench.bytes;
     let n = memory::devices(&bytes);
     let mut p: u8 = 0;
     while p < n {
-        if !line(device(bench, p)) {
+        if !line(lines::device(bench, p)) {
             return false;
         }
         p += 1;
@@ -62,18 +41,15 @@ fn devices(bench: Bench) -> bool {
 }
 
 // The number of replies, and the state that a log leaves.
-pub fn state(replies: u64, bench: Bench) -> bool {
-    if !line(replay_report::replies(replies)) {
+pub fn state(progress: Progress) -> bool {
+    if !line(lines::replies(progress)) {
         return false;
     }
-    let bytes = bench.bytes;
-    if !line(replay_report::carried(memory::used(&bytes))) {
+    let bench = progress.bench;
+    if !line(lines::carried(bench)) {
         return false;
     }
-    let kind = memory::callback(&bytes);
-    let asked = memory::asked(&bytes);
-    let target = memory::target(&bytes);
-    if !line(replay_report::callback(kind, asked, target)) {
+    if !line(lines::callback(bench)) {
         return false;
     }
     devices(bench)

@@ -1,18 +1,18 @@
 -- How long the words are that are picked. Assumes nothing.
-use mathlib.Core.Bool.{Bool, true, false}
-use mathlib.Core.List.{List}
 use Prim.Native.Nat.{ℕ, _≤_}
 use native.Mathlib.Omega.{arith}
 use lib.Dec.{eqb}
 use lib.ListN.{length}
-use Rattle.model.specs.Logic.{if_then_else_}
 use Rattle.replay_text.specs.Text.{ascii}
 use Rattle.replay_text.proofs.Digits.{short-if}
 use Rattle.replay_report.specs.Lines.{statusText, signText}
 
 pub status-short : (status : ℕ) → length (statusText status) ≤ 10
 unfolding ascii statusText
-status-short status = short-if _ (eqb status 0) _ _ (omega arith) (short-if _ (eqb status 1) _ _ (omega arith) (short-if _ (eqb status 2) _ _ (omega arith) (short-if _ (eqb status 3) _ _ (omega arith) (omega arith))))
+status-short status =
+    short-if _ (eqb status 0) _ _ (omega arith)
+    (short-if _ (eqb status 1) _ _ (omega arith)
+    (short-if _ (eqb status 2) _ _ (omega arith) (short-if _ (eqb status 3) _ _ (omega arith) (omega arith))))
 
 pub sign-short : (magnitude : ℕ) → length (signText magnitude) ≤ 1
 unfolding ascii signText

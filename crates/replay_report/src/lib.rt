@@ -4,6 +4,9 @@ ghost use Prim.Native.Nat.{_+_};
 ghost use Rattle.table.specs.Answers.{answerOf};
 ghost use Rattle.replay_text.specs.Line.{lineOf, added};
 ghost use Rattle.replay_report.specs.Lines.{refusedText, repliesText, carriedText, callbackText, statusText, signText, rowText, stoppedText};
+use basics::long8;
+use basics::long16;
+use basics::long32;
 use replay_text::line::Line;
 use replay_text::line::field;
 use replay_text::line::number;
@@ -11,62 +14,12 @@ use replay_text::line::start;
 use replay_text::line::word;
 use table::Answer;
 
-fn wide8(x: u8) -> u64
-    ensures { λ r. ⌜ r ≡ x ⌝ }
-{
-    x as u64
-}
-
-fn wide16(x: u16) -> u64
-    ensures { λ r. ⌜ r ≡ x ⌝ }
-{
-    x as u64
-}
-
-fn wide32(x: u32) -> u64
-    ensures { λ r. ⌜ r ≡ x ⌝ }
-{
-    x as u64
-}
-
-// Document 01's number of an answer, 0 where the table is taken.
-fn number_of(a: Answer) -> u8
-    ensures { λ r. ⌜ r ≡ answerOf a .number ⌝ }
-{
-    match a {
-        Answer::Taken => 0,
-        Answer::Short => 1,
-        Answer::Mark => 2,
-        Answer::Version => 3,
-        Answer::Limits => 4,
-        Answer::Length => 5,
-        Answer::Device(_) => 6,
-        Answer::Link(_) => 7,
-    }
-}
-
-// The index of a faulty entry, 0 for any other answer.
-fn index_of(a: Answer) -> u16
-    ensures { λ r. ⌜ r ≡ answerOf a .index ⌝ }
-{
-    match a {
-        Answer::Taken => 0,
-        Answer::Short => 0,
-        Answer::Mark => 0,
-        Answer::Version => 0,
-        Answer::Limits => 0,
-        Answer::Length => 0,
-        Answer::Device(p) => p as u16,
-        Answer::Link(i) => i,
-    }
-}
-
 // table refused NUMBER INDEX
 pub fn refused(answer: Answer) -> Line
     ensures { λ r. ⌜ r ≡ lineOf (refusedText (answerOf answer)) ⌝ }
 {
-    let numbered = field(start(), b"table refused ", wide8(number_of(answer)));
-    let indexed = field(numbered, b" ", wide16(index_of(answer)));
+    let numbered = field(start(), b"table refused ", long8(table::number(answer)));
+    let indexed = field(numbered, b" ", long16(table::index(answer)));
     word(indexed, b"\n")
 }
 
@@ -81,7 +34,7 @@ pub fn replies(count: u64) -> Line
 pub fn carried(used: u8) -> Line
     ensures { λ r. ⌜ r ≡ lineOf (carriedText used) ⌝ }
 {
-    word(field(start(), b"carried ", wide8(used)), b"\n")
+    word(field(start(), b"carried ", long8(used)), b"\n")
 }
 
 // callback none, callback suspend P, callback idle P or callback resume P for T
@@ -90,12 +43,12 @@ pub fn callback(kind: u8, asked: u8, target: u8) -> Line
 {
     match kind {
         0 => word(start(), b"callback none\n"),
-        1 => word(field(start(), b"callback suspend ", wide8(asked)), b"\n"),
+        1 => word(field(start(), b"callback suspend ", long8(asked)), b"\n"),
         2 => {
-            let asking = field(start(), b"callback resume ", wide8(asked));
-            word(field(asking, b" for ", wide8(target)), b"\n")
+            let asking = field(start(), b"callback resume ", long8(asked));
+            word(field(asking, b" for ", long8(target)), b"\n")
         }
-        3 => word(field(start(), b"callback idle ", wide8(asked)), b"\n"),
+        3 => word(field(start(), b"callback idle ", long8(asked)), b"\n"),
         _ => word(start(), b"callback unknown\n"),
     }
 }
@@ -145,14 +98,14 @@ pub struct Row {
 pub fn device(p: u8, row: Row) -> Line
     ensures { λ r. ⌜ r ≡ lineOf (rowText p row) ⌝ }
 {
-    let named = field(start(), b"device ", wide8(p));
+    let named = field(start(), b"device ", long8(p));
     let placed = status_word(word(named, b" status "), row.status);
     let used = field(placed, b" usage ", usage(row.holds, row.linked));
-    let counted = field(used, b" children ", wide8(row.children));
-    let held = field(counted, b" holds ", wide32(row.holds));
-    let disabled = field(held, b" depth ", wide8(row.depth));
+    let counted = field(used, b" children ", long8(row.children));
+    let held = field(counted, b" holds ", long32(row.holds));
+    let disabled = field(held, b" depth ", long8(row.depth));
     let signed = sign(word(disabled, b" error "), row.error);
-    word(number(signed, wide32(row.error)), b"\n")
+    word(number(signed, long32(row.error)), b"\n")
 }
 
 // replay: piece refused NUMBER
@@ -160,7 +113,7 @@ pub fn stopped(number: u8) -> Line
     ensures { λ r. ⌜ r ≡ lineOf (stoppedText number) ⌝ }
 {
     word(
-        field(start(), b"replay: piece refused ", wide8(number)),
+        field(start(), b"replay: piece refused ", long8(number)),
         b"\n",
     )
 }

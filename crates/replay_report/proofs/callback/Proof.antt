@@ -9,39 +9,50 @@ use Rattle.replay_text.proofs.Adding.{holds-start, holds-word, holds-field}
 use Rattle.replay_report.proofs.callback.Statement.{statement}
 use Rattle.replay_report.proofs.callback.Tie as tie
 
+-- none open
 returns : tie.Need-returns
 unfolding ascii callbackText if_then_else_
 returns c =
     let h = holds-start (c .before .before .start .ensures) in
     rw (c .before .before .before .match .keys1) (holds-word (ascii "callback none\n") h (c .word .ensures) (omega arith) .line)
 
+-- suspend
 returns-2 : tie.Need-returns-2
 unfolding ascii callbackText if_then_else_
 returns-2 c =
-    let f = c .before .before in
-    let h = holds-start (f .before .before .before .start2 .ensures) in
-    let g = holds-field (ascii "callback suspend ") (f .before .before .before .before .before .args .asked) h (f .before .wide8 .ensures) (f .field .ensures) (omega arith) in
-    rw (f .before .before .before .before .match .keys2) (holds-word (ascii "\n") g (c .word2 .ensures) (omega arith) .line)
+    let field = c .before .before in
+    let start = field .before .before .before in
+    let matched = start .before in
+    let h = holds-start (start .start2 .ensures) in
+    let g = holds-field (ascii "callback suspend ") (matched .before .args .asked) h (field .before .long8 .ensures) (field .field .ensures) (omega arith) in
+    rw (matched .match .keys2) (holds-word (ascii "\n") g (c .word2 .ensures) (omega arith) .line)
 
+-- resume
 returns-3 : tie.Need-returns-3
 unfolding ascii callbackText if_then_else_
 returns-3 c =
-    let t = c .before .before in
-    let f = t .before .before .before in
-    let args = f .before .before .before .before .before .args in
-    let h = holds-start (f .before .before .before .start3 .ensures) in
-    let g = holds-field (ascii "callback resume ") (args .asked) h (f .before .wide82 .ensures) (f .field2 .ensures) (omega arith) in
-    let i = holds-field (ascii " for ") (args .target) g (t .before .wide83 .ensures) (t .field3 .ensures) (omega arith) in
-    rw (f .before .before .before .before .match .keys3) (holds-word (ascii "\n") i (c .word3 .ensures) (omega arith) .line)
+    let target = c .before .before in
+    let asked = target .before .before .before in
+    let start = asked .before .before .before in
+    let matched = start .before in
+    let args = matched .before .args in
+    let h = holds-start (start .start3 .ensures) in
+    let g = holds-field (ascii "callback resume ") (args .asked) h (asked .before .long82 .ensures) (asked .field2 .ensures) (omega arith) in
+    let i = holds-field (ascii " for ") (args .target) g (target .before .long83 .ensures) (target .field3 .ensures) (omega arith) in
+    rw (matched .match .keys3) (holds-word (ascii "\n") i (c .word3 .ensures) (omega arith) .line)
 
+-- idle
 returns-4 : tie.Need-returns-4
 unfolding ascii callbackText if_then_else_
 returns-4 c =
-    let f = c .before .before in
-    let h = holds-start (f .before .before .before .start4 .ensures) in
-    let g = holds-field (ascii "callback idle ") (f .before .before .before .before .before .args .asked) h (f .before .wide84 .ensures) (f .field4 .ensures) (omega arith) in
-    rw (f .before .before .before .before .match .keys4) (holds-word (ascii "\n") g (c .word4 .ensures) (omega arith) .line)
+    let field = c .before .before in
+    let start = field .before .before .before in
+    let matched = start .before in
+    let h = holds-start (start .start4 .ensures) in
+    let g = holds-field (ascii "callback idle ") (matched .before .args .asked) h (field .before .long84 .ensures) (field .field4 .ensures) (omega arith) in
+    rw (matched .match .keys4) (holds-word (ascii "\n") g (c .word4 .ensures) (omega arith) .line)
 
+-- of a bench that is not sound
 returns-5 : tie.Need-returns-5
 unfolding ascii callbackText if_then_else_
 returns-5 c =

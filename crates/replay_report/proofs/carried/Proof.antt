@@ -10,8 +10,11 @@ use Rattle.replay_report.proofs.carried.Tie as tie
 returns : tie.Need-returns
 unfolding ascii carriedText
 returns c =
-    let f = c .before .before in
-    let g = holds-field (ascii "carried ") (c .before .before .before .before .before .before .args .used) (holds-start (c .before .before .before .before .before .start .ensures)) (f .before .wide8 .ensures) (f .field .ensures) (omega arith) in
+    let field = c .before .before in
+    let wide = field .before in
+    let start = wide .before .before in
+    let h = holds-start (start .start .ensures) in
+    let g = holds-field (ascii "carried ") (start .before .args .used) h (wide .long8 .ensures) (field .field .ensures) (omega arith) in
     holds-word (ascii "\n") g (c .word .ensures) (omega arith) .line
 
 pub carried-spec : {M : Type 1} → statement M

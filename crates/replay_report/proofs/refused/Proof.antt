@@ -12,12 +12,14 @@ use Rattle.replay_report.proofs.refused.Tie as tie
 returns : tie.Need-returns
 unfolding ascii refusedText
 returns c =
-    let i = c .before .before in
-    let f = i .before .before .before .before in
-    let answer = answerOf (f .before .before .before .before .before .args .answer) in
-    let h = holds-start (f .before .before .before .before .start .ensures) in
-    let g = holds-field (ascii "table refused ") (answer .number) h (f .before .wide8 .ensures ∙ f .before .before .number-of .ensures) (f .field .ensures) (omega arith) in
-    let k = holds-field (ascii " ") (answer .index) g (i .before .wide16 .ensures ∙ i .before .before .index-of .ensures) (i .field2 .ensures) (omega arith) in
+    let index = c .before .before in
+    let number = index .before .before .before .before in
+    let start = number .before .before .before .before in
+    let answer = answerOf (start .before .args .answer) in
+    let n = number .before .long8 .ensures ∙ number .before .before .number .ensures in
+    let i = index .before .long16 .ensures ∙ index .before .before .index .ensures in
+    let g = holds-field (ascii "table refused ") (answer .number) (holds-start (start .start .ensures)) n (number .field .ensures) (omega arith) in
+    let k = holds-field (ascii " ") (answer .index) g i (index .field2 .ensures) (omega arith) in
     holds-word (ascii "\n") k (c .word .ensures) (omega arith) .line
 
 pub refused-spec : {M : Type 1} → statement M

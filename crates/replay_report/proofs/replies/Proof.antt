@@ -11,8 +11,9 @@ use Rattle.replay_report.proofs.replies.Tie as tie
 returns : tie.Need-returns
 unfolding ascii repliesText
 returns c =
-    let f = c .before .before in
-    let g = holds-field (ascii "replies ") (c .before .before .before .before .before .args .count) (holds-start (c .before .before .before .before .start .ensures)) refl (f .field .ensures) (omega arith) in
+    let field = c .before .before in
+    let start = field .before .before in
+    let g = holds-field (ascii "replies ") (start .before .args .count) (holds-start (start .start .ensures)) refl (field .field .ensures) (omega arith) in
     holds-word (ascii "\n") g (c .word .ensures) (omega arith) .line
 
 pub replies-spec : {M : Type 1} → statement M

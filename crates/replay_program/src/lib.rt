@@ -1,0 +1,79 @@
+// The program `replay`: a log is fed to the keeper in pieces, its replies go to a file, and the state that it leaves is printed.
+ghost use mathlib.Core.Path.{_≡_};
+ghost use mathlib.Core.Logic.{_⊎_};
+ghost use Rattle.model.specs.State.{loadOf};
+ghost use Rattle.replay_pieces.specs.Poured.{Replayed};
+ghost use Rattle.replay_program.specs.Ends.{Judged};
+use replay_files::arguments;
+use replay_files::files;
+use replay_files::printed;
+use replay_pieces::end::End;
+use replay_pieces::end::status;
+use replay_pieces::turn::Progress;
+use replay_text::size::Size;
+
+// Tells that the table is refused.
+fn refuse(answer: table::Answer) -> End
+    ensures { λ r. ⌜ (r ≡ End.Refused) ⊎ (r ≡ End.Failed) ⌝ }
+{
+    if printed::line(replay_report::refused(answer)) {
+        return End::Refused;
+    }
+    End::Failed
+}
+
+// Prints the state that the log leaves: the one that the table and the pieces fed lead to.
+fn tell(table: &[u8], progress: Progress) -> End
+    requires { ⌜ Replayed (now table) progress ⌝ }
+    ensures { λ r. ⌜ (r ≡ End.Done) ⊎ (r ≡ End.Failed) ⌝ }
+{
+    if printed::state(progress) {
+        return End::Done;
+    }
+    End::Failed
+}
+
+// Loads the table, and replays the log in pieces of that size.
+fn replay(table: &[u8], size: usize) -> End
+    ensures { λ r. ⌜ Judged (loadOf (now (table .entry)) .answer .number) r ⌝ }
+{
+    let loaded = keeper::load(table);
+    let answer = loaded.answer;
+    let bench = loaded.bench;
+    let table::Answer::Taken = answer else {
+        return refuse(answer);
+    };
+    let session = replay_log::named(bench, size);
+    let end = session.end;
+    let End::Done = end else {
+        return end;
+    };
+    let progress = session.progress;
+    tell(table, progress)
+}
+
+// Reads the table, and replays the log. A table that is longer than 4,096 bytes is refused with the number of its first 4,096: the
+// longest that is taken has 519, and the tests before the length read the first seven bytes.
+fn begin(size: usize) -> End {
+    let mut bytes = io::buffer();
+    let read = files::table(&mut bytes);
+    if read.failed {
+        return End::Failed;
+    }
+    let count = read.count;
+    replay(&bytes[..count], size)
+}
+
+// The program, and its exit status.
+pub fn run() -> u8 {
+    let Size::Bytes(size) = arguments::read() else {
+        return status(End::Wrong);
+    };
+    status(begin(size))
+}
+
+// The same for a host, whose exit status it is.
+#[no_mangle]
+pub extern "C" fn replay_run() -> u8 {
+    run()
+}
