@@ -1,20 +1,20 @@
 // A piece of log on the memory of a bench, for the tests to call. It is a library of its own: with one caller of the dispatch in it,
 // the compiler makes the loop and the dispatch one piece of code, as in `replay_program`.
 ghost use mathlib.Core.Path.{_≡_};
-ghost use Rattle.record_feed.specs.Pieces.{numberOf, repliesOf};
+ghost use Rattle.record_answer.specs.Answers.{numberOf, repliesOf};
 ghost use Rattle.export_feed.specs.Fed.{fedCode, FedIn};
 use basics::word8;
 use keeper_bench::Bench;
 use memory::BYTES;
 use memory::WORDS;
-use record_feed::Answer;
+use record_answer::Answer;
 
 // The answer as one number: the refusal's number and 256 times the number of replies.
 fn code(answer: Answer) -> u32
     ensures { λ r. ⌜ r ≡ fedCode (numberOf answer) (repliesOf answer) ⌝ }
 {
-    let number = word8(record_feed::number(answer));
-    let replies = record_feed::count(answer) as u32;
+    let number = word8(record_answer::number(answer));
+    let replies = record_answer::count(answer) as u32;
     number + 256 * replies
 }
 

@@ -21,9 +21,9 @@ use Rattle.model.proofs.Pieces.{piece-taken, piece-refused}
 use Rattle.model.proofs.Day.{day-loads}
 use Rattle.table.specs.Answers.{answerOf}
 use Rattle.table.specs.declared.Answer.the-variants as table-answer
-use Rattle.record_feed.specs.declared.Answer.{Answer}
-use Rattle.record_feed.specs.declared.Answer.the-variants.{Long, Room, Taken}
-use Rattle.record_feed.specs.Pieces.{numberOf, repliesOf}
+use Rattle.record_answer.specs.declared.Answer.{Answer}
+use Rattle.record_answer.specs.declared.Answer.the-variants.{Long, Room, Taken}
+use Rattle.record_answer.specs.Answers.{numberOf, repliesOf}
 use Rattle.keeper_bench.specs.declared.Bench.{Bench}
 use Rattle.keeper_bench.specs.Translate.{stateOf, benchOf}
 use Rattle.keeper_bench.proofs.Translations.{sound-back-and-there}

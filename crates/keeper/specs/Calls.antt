@@ -7,7 +7,7 @@ use Rattle.model.specs.Steps.{run, repliesIn}
 use Rattle.model.specs.Sound.{Supply}
 use Rattle.model.specs.Feed.{Piece, Fed, feedOf}
 use Rattle.model.specs.Demand3.{joined, refusals, takenBytes, isGet, isPut, counted}
-use Rattle.record_feed.specs.Pieces.{numberOf}
+use Rattle.record_answer.specs.Answers.{numberOf}
 use Rattle.keeper_bench.specs.declared.Bench.{Bench}
 use Rattle.keeper_bench.specs.Translate.{stateOf}
 use Rattle.keeper.specs.declared.Loaded as declared

@@ -4,7 +4,7 @@ use Prim.Native.Nat.{ℕ}
 use Rattle.model.specs.State.{Loaded}
 use Rattle.model.specs.Feed.{Fed}
 use Rattle.table.specs.Answers.{answerOf}
-use Rattle.record_feed.specs.Pieces.{numberOf, repliesOf}
+use Rattle.record_answer.specs.Answers.{numberOf, repliesOf}
 use Rattle.keeper_bench.specs.Translate.{stateOf}
 use Rattle.keeper.specs.declared.Loaded as declared
 use Rattle.keeper.specs.declared.Fed as declared-fed

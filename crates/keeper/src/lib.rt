@@ -95,7 +95,7 @@ pub fn load(t: &[u8]) -> Loaded
 
 // What a piece of log gives: the answer, and the bench handed back, as it was where the piece is refused.
 pub struct Fed {
-    pub answer: record_feed::Answer,
+    pub answer: record_answer::Answer,
     pub bench: Bench,
 }
 

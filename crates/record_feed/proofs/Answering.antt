@@ -20,9 +20,9 @@ use Rattle.model.proofs.Running.{sound-carry, nothing-carried, replies-many}
 use Rattle.memory.specs.Layout.{BYTES, WORDS, stateIn}
 use Rattle.memory.proofs.Inverse.{shaped-in}
 use Rattle.links.specs.Firsts.{firstLinks}
-use Rattle.record_feed.specs.Pieces.{restIn, Between, Led}
-use Rattle.record_feed.proofs.Joining.{joined-length, over-front}
-use Rattle.record_feed.proofs.Looping.{carried-first}
+use Rattle.record_loop.specs.Runs.{restIn, Between, Led}
+use Rattle.record_loop.proofs.Joining.{joined-length, over-front}
+use Rattle.record_loop.proofs.Looping.{carried-first}
 
 -- ---- from the soundness test
 pub few-carried : (s : State) → soundTest s ≡ true → s .carry .used ≤ 3

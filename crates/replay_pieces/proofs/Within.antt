@@ -11,7 +11,7 @@ use Rattle.model.specs.Steps.{run, repliesIn}
 use Rattle.model.specs.Feed.{Piece, Fed, feedAnswer, feedOf}
 use Rattle.model.proofs.Basics.{by-if, never}
 use Rattle.model.proofs.Pieces.{log-replies}
-use Rattle.record_feed.specs.Pieces.{numberOf}
+use Rattle.record_answer.specs.Answers.{numberOf}
 use Rattle.keeper_bench.specs.Translate.{stateOf}
 use Rattle.replay_pieces.specs.declared.turn.Progress.{Progress}
 use Rattle.replay_pieces.specs.declared.turn.Turn.{Turn}

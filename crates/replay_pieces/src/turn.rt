@@ -1,7 +1,7 @@
 // A piece of log fed to the keeper.
 ghost use Rattle.replay_pieces.specs.Turns.{Turned};
 use keeper_bench::Bench;
-use record_feed::Answer;
+use record_answer::Answer;
 
 // Where a replay stands: the bench, and how many pieces and replies there are so far.
 pub struct Progress {
@@ -25,7 +25,7 @@ pub fn feed(progress: Progress, piece: &[u8], replies: &mut [u8]) -> Turn
     let fed = keeper::feed(bench, piece, replies);
     let answer = fed.answer;
     let left = fed.bench;
-    let more = record_feed::count(answer);
+    let more = record_answer::count(answer);
     Turn {
         progress: Progress {
             bench: left,

@@ -7,7 +7,7 @@ use Prim.Native.Nat.{ℕ, zero, suc, _+_, _-_, _%_, _^_, _<_}
 use native.Mathlib.Omega.{arith}
 use native.Mathlib.Nat.{mod-eq-of-lt}
 use Rattle.model.proofs.Basics.{never}
-use Rattle.record_feed.specs.Pieces.{numberOf}
+use Rattle.record_answer.specs.Answers.{numberOf}
 use Rattle.keeper_bench.specs.declared.Bench.{Bench}
 use Rattle.replay_pieces.specs.declared.end.End.{End}
 use Rattle.replay_pieces.specs.declared.end.End.the-variants.{Done, Failed, Stopped}

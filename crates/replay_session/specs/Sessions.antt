@@ -5,7 +5,7 @@ use mathlib.Core.Bool.{true}
 use mathlib.Core.List.{List}
 use mathlib.Core.Logic.{_⊎_}
 use Prim.Native.Nat.{ℕ, _+_, _%_, _^_}
-use Rattle.record_feed.specs.Pieces.{numberOf}
+use Rattle.record_answer.specs.Answers.{numberOf}
 use Rattle.keeper_bench.specs.declared.Bench.{Bench}
 use Rattle.replay_pieces.specs.declared.end.End.{End}
 use Rattle.replay_pieces.specs.declared.end.End.the-variants.{Done, Refused, Wrong, Failed, Stopped}

@@ -77,7 +77,7 @@ fn fed<'a>(before: Progress, piece: &'a [u8], out: i32, out_path: &'a [u8]) -> S
     let turn = turn::feed(before, piece, &mut replies);
     let progress = turn.progress;
     let answer = turn.answer;
-    let number = record_feed::number(answer);
+    let number = record_answer::number(answer);
     if number != 0 {
         printed::stopped(number);
         return ended(progress, End::Stopped);

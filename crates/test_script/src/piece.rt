@@ -13,7 +13,7 @@ use basics::wide;
 use keeper::Fed;
 use keeper_bench::Bench;
 use memory::BYTES;
-use record_feed::Answer;
+use record_answer::Answer;
 use test_words::byte_at;
 
 // What a buffer for replies holds before.
@@ -76,8 +76,8 @@ fn replies(s: &[u8], n: u16, before: u64) -> u64 {
 
 // Tells an answer: how many replies, none for a refusal.
 fn count(answer: Answer) -> u16 {
-    let number = record_feed::number(answer);
-    let replies = record_feed::count(answer);
+    let number = record_answer::number(answer);
+    let replies = record_answer::count(answer);
     if number == 0 {
         show::field(texts::TAKEN, long16(replies));
     } else {

@@ -4,9 +4,9 @@ use mathlib.Core.List.{List}
 use Prim.Native.Nat.{ℕ, _≤_}
 use native.Mathlib.Omega.{arith}
 use lib.ListN.{length}
-use Rattle.record_feed.specs.Pieces.{joined}
-use Rattle.record_feed.proofs.Joining.{joined-length, rest-after}
-use Rattle.record_feed.proofs.Looping.{turning-start, turning-end, led-joined}
+use Rattle.record_loop.specs.Runs.{joined, Room}
+use Rattle.record_loop.proofs.Joining.{joined-length, rest-after}
+use Rattle.record_loop.proofs.Looping.{turning-start, turning-end, led-joined}
 use borrow.Author.Needs.{needs}
 use Rattle.record_feed.proofs.answer_all.Statement.{statement}
 use Rattle.record_feed.proofs.answer_all.Tie as tie
@@ -27,9 +27,8 @@ abbrev carrying : tie.Else1 → tie.Start
 carrying c = c .before .before .before
 
 -- nothing is carried: the records stand in the piece
-answer-records-requires : tie.Need-answer-records-requires
-answer-records-requires c κs =
-    let none = c .before .before .before in
+piece-fits : (c : tie.Then1) → let start = c .before .before .before in Room 0 (start .args .piece .now) (start .args .replies .now)
+piece-fits none =
     let start = none .before .before .before in
     let u = none .if1 .taken in
     let r = start .pre .room in
@@ -44,7 +43,7 @@ returns c =
     let none = ran .before .before .before .before in
     let start = none .before .before .before in
     let e : start .args .carried .used ≡ 0 = (let u = none .if1 .taken in omega arith) in
-    record { is = λ z. rw e (ran .answer-records .ensures .is z) }
+    record { is = λ z. rw e (ran .answer-records .ensures .is (piece-fits none) .is z) }
 
 -- there is no whole record
 returns-2 : tie.Need-returns-2
@@ -112,5 +111,5 @@ returns-3 c =
 pub answer-all-spec : {M : Type 1} → statement M
 answer-all-spec =
     tie.close
-    (tie.spec answer-records-requires same-length returns (λ c. search needs) returns-2 answer-first-requires (λ c. search needs) answer-rest-requires
+    (tie.spec (λ c κs. search needs) same-length returns (λ c. search needs) returns-2 answer-first-requires (λ c. search needs) answer-rest-requires
     same-length-2 returns-3)

@@ -1,15 +1,17 @@
 -- The part of the piece and the part of the buffer are lent, and the latter comes back in its place. Assumes nothing.
 use native.Mathlib.Omega.{arith}
-use lib.ListN.{length-drop}
-use Rattle.record_feed.proofs.Joining.{part-lent, part-back}
+use Prim.Native.Nat.{_-_}
+use lib.ListN.{length, take, drop, length-drop}
+use Rattle.record_loop.specs.Runs.{Room}
+use Rattle.record_loop.proofs.Joining.{part-lent, part-back}
 use borrow.Author.Needs.{needs}
 use Rattle.record_feed.proofs.answer_rest.Statement.{statement}
 use Rattle.record_feed.proofs.answer_rest.Tie as tie
 
-answer-records-requires : tie.Need-answer-records-requires
-answer-records-requires c κs =
-    let known = c .before .before .before .before in
-    let start = known .before .before in
+-- the rest of the piece and of the buffer, as they are lent
+rest-fits : (start : tie.Start) → let piece = start .args .piece .now in let out = start .args .replies .now in
+    Room 0 (take (length piece - start .args .from) (drop (start .args .from) piece)) (take (length out - 4) (drop 4 out))
+rest-fits start =
     let piece = start .args .piece .now in
     let out = start .args .replies .now in
     let l = length-drop (start .args .from) piece in
@@ -31,7 +33,7 @@ returns c =
     let out = start .args .replies .now in
     record {
       part = ran .answer-records .last .1 .1 .1 .1 .0;
-      is = λ z. rw (part-lent (start .args .from) piece, part-lent 4 out) at (ran .answer-records .ensures .is z);
+      is = λ z. rw (part-lent (start .args .from) piece, part-lent 4 out) at (ran .answer-records .ensures .is (rest-fits start) .is z);
       back = part-back 4 out _ (start .pre .one);
     }
 
@@ -39,4 +41,4 @@ pub answer-rest-spec : {M : Type 1} → statement M
 answer-rest-spec =
     tie.close
     (tie.spec (λ c. search needs) (λ c. search needs) (λ c. search needs) (λ c. search needs) (λ c. search needs) (λ c. search needs)
-    answer-records-requires same-length returns)
+    (λ c κs. search needs) same-length returns)

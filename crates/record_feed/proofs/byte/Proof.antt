@@ -3,7 +3,7 @@ use mathlib.Core.Path.{_∙_}
 use Prim.Native.Nat.{_≤_}
 use native.Mathlib.Omega.{arith}
 use lib.ListN.{length}
-use Rattle.record_feed.proofs.Joining.{carried-at, piece-at}
+use Rattle.record_loop.proofs.Joining.{carried-at, piece-at}
 use borrow.Author.Needs.{needs}
 use Rattle.record_feed.proofs.byte.Statement.{statement}
 use Rattle.record_feed.proofs.byte.Tie as tie

@@ -7,7 +7,7 @@ use native.Mathlib.Nat.{add-zero}
 use lib.ListN.{length, getD, set, take, drop, length-append, length-drop, take-append-drop}
 use lib.Seq.{take-all, drop-length, length-take-le, drop-cons, drop-drop, take-at, drop-at, getD-take, getD-append-add, sets-eq}
 use Rattle.model.specs.Feed.{over}
-use Rattle.record_feed.specs.Pieces.{overAt}
+use Rattle.record_loop.specs.Runs.{overAt}
 
 -- ---- a byte of the joined bytes
 module _ (carried piece : List ℕ) (used : ℕ) (few : used ≤ length carried) where

@@ -17,8 +17,8 @@ use Rattle.model.proofs.Running.{run-joined, replies-many}
 use Rattle.model.proofs.Pieces.{log-replies, log-joined}
 use Rattle.links.specs.Firsts.{Indexed}
 use Rattle.links.proofs.Keeping.{sound-indexed, record-index}
-use Rattle.record_feed.specs.Pieces.{recordIn, fourIn, restIn, overAt, nothing, Between, Led, Reached, Turning}
-use Rattle.record_feed.proofs.Joining.{next-four, over-length, over-more, over-none, over-part}
+use Rattle.record_loop.specs.Runs.{recordIn, fourIn, restIn, overAt, nothing, Between, Led, Reached, Turning}
+use Rattle.record_loop.proofs.Joining.{next-four, over-length, over-more, over-none, over-part}
 
 -- ---- the carried bytes, fed again where none wait
 held : (s : State) (bytes : List ℕ) (used : ℕ) → Carried (record { bytes = bytes; used = used })

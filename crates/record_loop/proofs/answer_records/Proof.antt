@@ -1,13 +1,14 @@
 -- The records of a source one after another: after k of them the rest of the source leads where all of it leads. Assumes nothing.
+use mathlib.Core.Path.{refl}
 use Prim.Native.Nat.{_-_}
 use native.Mathlib.Omega.{arith}
 use lib.ListN.{length}
 use Rattle.memory.specs.Layout.{stateIn}
-use Rattle.record_feed.specs.Pieces.{Turning}
-use Rattle.record_feed.proofs.Looping.{turning-start, whole-record, reply-fits, turning-more, turning-end}
+use Rattle.record_loop.specs.Runs.{Turning}
+use Rattle.record_loop.proofs.Looping.{turning-start, whole-record, reply-fits, turning-more, turning-end}
 use borrow.Author.Needs.{needs}
-use Rattle.record_feed.proofs.answer_records.Statement.{statement}
-use Rattle.record_feed.proofs.answer_records.Tie as tie
+use Rattle.record_loop.proofs.answer_records.Statement.{statement}
+use Rattle.record_loop.proofs.answer_records.Tie as tie
 
 abbrev Inv-loop : tie.InvT-loop
 Inv-loop bytes₀ words₀ first source replies₀ count k₀ bytes words replies k =
@@ -16,14 +17,26 @@ Inv-loop bytes₀ words₀ first source replies₀ count k₀ bytes words replie
 abbrev μ-loop : tie.MeasureT-loop
 μ-loop bytes₀ words₀ first source replies₀ count k₀ bytes words replies k = count - k
 
+-- longer than a piece may be
+returns : tie.Need-returns Inv-loop μ-loop
+returns c =
+    let l = c .if1 .taken in
+    record { is = λ r. let short = r .short in absurd (omega arith); untouched = λ n. (refl, refl, refl) }
+
+-- no room for the replies
+returns-2 : tie.Need-returns-2 Inv-loop μ-loop
+returns-2 c =
+    let l = c .if2 .taken in
+    record { is = λ r. let room = r .room in absurd (omega arith); untouched = λ n. (refl, refl, refl) }
+
 -- no record is answered at the start
 loop-holds : tie.Need-loop-holds Inv-loop μ-loop
-loop-holds c = let r = c .before .before .pre .room in turning-start (omega arith)
+loop-holds c = let r = c .if2 .left in turning-start (omega arith)
 
 record-in-requires : tie.Need-record-in-requires Inv-loop μ-loop
 record-in-requires c κs =
-    let start = c .before .before .before .before in
-    (whole-record (c .before .loop .inv) (c .loop-test .taken), start .pre .short)
+    let short = c .before .before .before in
+    (whole-record (c .before .loop .inv) (c .loop-test .taken), short .if1 .left)
 
 write-reply-requires : tie.Need-write-reply-requires Inv-loop μ-loop
 write-reply-requires c κs =
@@ -45,11 +58,18 @@ loop-again c =
 same-length : tie.Need-same-length Inv-loop μ-loop
 same-length c = c .before .loop .inv .long
 
-returns : tie.Need-returns Inv-loop μ-loop
-returns c = record { is = turning-end (c .before .loop .inv) (c .loop-test .left) }
+returns-3 : tie.Need-returns-3 Inv-loop μ-loop
+returns-3 c =
+    let roomy = c .before .before in
+    let room = roomy .if2 .left in
+    let short = roomy .before .if1 .left in
+    record {
+      is = λ r. record { is = turning-end (c .before .loop .inv) (c .loop-test .left) };
+      untouched = λ n. absurd (n (record { few = omega arith; short = short; room = omega arith }));
+    }
 
 pub answer-records-spec : {M : Type 1} → statement M
 answer-records-spec =
     tie.close
-    (tie.spec Inv-loop μ-loop loop-holds (λ c. search needs) record-in-requires (λ c κs. search needs) (λ c. search needs) write-reply-requires
-    (λ c. search needs) (λ c. omega arith) loop-again same-length returns)
+    (tie.spec Inv-loop μ-loop returns (λ c. search needs) returns-2 loop-holds (λ c. search needs) record-in-requires (λ c κs. search needs)
+    (λ c. search needs) write-reply-requires (λ c. search needs) (λ c. omega arith) loop-again same-length returns-3)

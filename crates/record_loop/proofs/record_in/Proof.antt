@@ -1,8 +1,8 @@
--- `record_feed::record_in` meets its contract. Assumes nothing.
-use Rattle.record_feed.specs.Pieces.{recordIn}
+-- `record_loop::record_in` meets its contract. Assumes nothing.
+use Rattle.record_loop.specs.Runs.{recordIn}
 use borrow.Author.Needs.{needs}
-use Rattle.record_feed.proofs.record_in.Statement.{statement}
-use Rattle.record_feed.proofs.record_in.Tie as tie
+use Rattle.record_loop.proofs.record_in.Statement.{statement}
+use Rattle.record_loop.proofs.record_in.Tie as tie
 
 returns : tie.Need-returns
 unfolding recordIn

@@ -1,10 +1,10 @@
--- `record_feed::write_reply` meets its contract. Assumes nothing.
+-- `record_loop::write_reply` meets its contract. Assumes nothing.
 use native.Mathlib.Omega.{arith}
 use lib.ListN.{length-set}
-use Rattle.record_feed.proofs.Joining.{over-four}
+use Rattle.record_loop.proofs.Joining.{over-four}
 use borrow.Author.Needs.{needs}
-use Rattle.record_feed.proofs.write_reply.Statement.{statement}
-use Rattle.record_feed.proofs.write_reply.Tie as tie
+use Rattle.record_loop.proofs.write_reply.Statement.{statement}
+use Rattle.record_loop.proofs.write_reply.Tie as tie
 
 slice-write-replies-2 : tie.Need-slice-write-replies-2
 slice-write-replies-2 c = simp length-set (omega arith)
