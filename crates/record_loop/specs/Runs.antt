@@ -1,15 +1,14 @@
 -- Records one after another over the memory: the words of the contracts. Assumes nothing.
 use mathlib.Core.Path.{_≡_}
 use mathlib.Core.List.{List, [], _∷_, _++_}
-use Prim.Native.Nat.{ℕ, _+_, _-_, _*_, _/_, _%_, _≤_}
+use Prim.Native.Nat.{ℕ, _+_, _*_, _/_, _%_, _≤_}
 use lib.ListN.{length, getD, take, drop, replicate}
 use Rattle.model.specs.Limits.{MAXPIECE}
 use Rattle.model.specs.State.{State, Carry, withCarry}
 use Rattle.model.specs.Records.{Rec, recordOf}
 use Rattle.model.specs.Steps.{run, repliesIn}
 use Rattle.model.specs.Sound.{Sound}
-use Rattle.model.specs.Feed.{feedAnswer, over, feedOf}
-use Rattle.memory.specs.Layout.{BYTES, WORDS, stateIn}
+use Rattle.memory.specs.Layout.{stateIn}
 use Rattle.links.specs.Firsts.{firstLinks}
 
 -- ---- bytes

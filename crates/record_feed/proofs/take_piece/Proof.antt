@@ -9,8 +9,7 @@ use Rattle.record_feed.proofs.take_piece.Tie as tie
 
 returns : tie.Need-returns
 returns c =
-    let left = c .before .before in
-    let answered = left .before .before .before in
+    let answered = c .before .before .before .before in
     let lent = answered .before .before .before in
     let cleared = lent .before .before in
     let indexed = cleared .before .before in
@@ -22,8 +21,8 @@ returns c =
           took (stateIn (start .args .bytes .now) (start .args .words .now)) h (held .carry .ensures _ cells) u (start .args .piece .now)
           (indexed .index .ensures .is (h .kept .table .order .links))
           (cleared .set-carried .ensures _ cells)
-          (answered .answer-all .ensures .is)
-          (left .rest .ensures)
+          (answered .answer-piece .ensures .is (start .pre) .is)
+          (answered .answer-piece .ensures .left (start .pre))
           (λ d. c .set-carried2 .ensures _ (long _ _ (ready (d .sound))));
     }
 
@@ -31,4 +30,4 @@ pub take-piece-spec : {M : Type 1} → statement M
 take-piece-spec =
     tie.close
     (tie.spec (λ c κs. search needs) (λ c κs. search needs) (λ c κs. search needs) (λ c κs. search needs) (λ c. search needs)
-    (λ c. search needs) (λ c κs. search needs) (λ c. search needs) (λ c κs. search needs) (λ c. search needs) returns)
+    (λ c. search needs) (λ c κs. search needs) (λ c. search needs) returns)

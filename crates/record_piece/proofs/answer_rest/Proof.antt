@@ -5,8 +5,8 @@ use lib.ListN.{length, take, drop, length-drop}
 use Rattle.record_loop.specs.Runs.{Room}
 use Rattle.record_loop.proofs.Joining.{part-lent, part-back}
 use borrow.Author.Needs.{needs}
-use Rattle.record_feed.proofs.answer_rest.Statement.{statement}
-use Rattle.record_feed.proofs.answer_rest.Tie as tie
+use Rattle.record_piece.proofs.answer_rest.Statement.{statement}
+use Rattle.record_piece.proofs.answer_rest.Tie as tie
 
 -- the rest of the piece and of the buffer, as they are lent
 rest-fits : (start : tie.Start) → let piece = start .args .piece .now in let out = start .args .replies .now in

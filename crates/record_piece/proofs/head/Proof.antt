@@ -1,7 +1,7 @@
 -- The four bytes in turn. Assumes nothing.
 use borrow.Author.Needs.{needs}
-use Rattle.record_feed.proofs.head.Statement.{statement}
-use Rattle.record_feed.proofs.head.Tie as tie
+use Rattle.record_piece.proofs.head.Statement.{statement}
+use Rattle.record_piece.proofs.head.Tie as tie
 
 returns : tie.Need-returns
 returns c =

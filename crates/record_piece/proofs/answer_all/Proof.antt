@@ -8,8 +8,8 @@ use Rattle.record_loop.specs.Runs.{joined, Room}
 use Rattle.record_loop.proofs.Joining.{joined-length, rest-after}
 use Rattle.record_loop.proofs.Looping.{turning-start, turning-end, led-joined}
 use borrow.Author.Needs.{needs}
-use Rattle.record_feed.proofs.answer_all.Statement.{statement}
-use Rattle.record_feed.proofs.answer_all.Tie as tie
+use Rattle.record_piece.proofs.answer_all.Statement.{statement}
+use Rattle.record_piece.proofs.answer_all.Tie as tie
 
 -- the carried bytes have their three rows
 rows : (start : tie.Start) → start .args .carried .used ≤ length (start .args .carried .bytes)

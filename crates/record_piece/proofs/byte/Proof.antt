@@ -1,12 +1,12 @@
--- `record_feed::byte` meets its contract. Assumes nothing.
+-- `record_piece::byte` meets its contract. Assumes nothing.
 use mathlib.Core.Path.{_∙_}
 use Prim.Native.Nat.{_≤_}
 use native.Mathlib.Omega.{arith}
 use lib.ListN.{length}
 use Rattle.record_loop.proofs.Joining.{carried-at, piece-at}
 use borrow.Author.Needs.{needs}
-use Rattle.record_feed.proofs.byte.Statement.{statement}
-use Rattle.record_feed.proofs.byte.Tie as tie
+use Rattle.record_piece.proofs.byte.Statement.{statement}
+use Rattle.record_piece.proofs.byte.Tie as tie
 
 few : (c : tie.Start) → c .args .used ≤ length (c .args .t1)
 few c = search needs

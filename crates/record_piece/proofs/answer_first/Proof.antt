@@ -2,8 +2,8 @@
 use native.Mathlib.Omega.{arith}
 use Rattle.record_loop.specs.Runs.{Room}
 use borrow.Author.Needs.{needs}
-use Rattle.record_feed.proofs.answer_first.Statement.{statement}
-use Rattle.record_feed.proofs.answer_first.Tie as tie
+use Rattle.record_piece.proofs.answer_first.Statement.{statement}
+use Rattle.record_piece.proofs.answer_first.Tie as tie
 
 first-fits : (c : tie.After-head) → let start = c .before .before .before .before in Room 0 (c .head .result) (start .args .replies .now)
 first-fits headed =
