@@ -9,7 +9,7 @@ use basics::word8;
 use memory::BYTES;
 use memory::WORDS;
 use model::ROWS;
-use record_step::Record;
+use record_kinds::Record;
 use request_answer::Reply;
 
 // How many bytes a bench has, and how many words.

@@ -4,7 +4,7 @@ ghost use Rattle.model.specs.Methods.{requested};
 ghost use Rattle.keeper_bench.specs.Translate.{stateOf};
 ghost use Rattle.keeper_bench.specs.Methods.{requestedOf, recordFor};
 use crate::Bench;
-use record_step::Record;
+use record_kinds::Record;
 use request_answer::Reply;
 
 // What a request is answered: the bench is not sound (21), or the record's reply.

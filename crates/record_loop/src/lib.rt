@@ -5,13 +5,13 @@ ghost use lib.ListN.{length};
 ghost use Rattle.model.specs.Limits.{MAXPIECE};
 ghost use Rattle.model.specs.Records.{replyBytes};
 ghost use Rattle.request_answer.specs.Promises.{replyOf};
-ghost use Rattle.record_step.specs.Records.{recOf};
+ghost use Rattle.record_kinds.specs.Kinds.{recOf};
 ghost use Rattle.record_loop.specs.Runs.{recordIn, overAt, Answered};
 use links::FIRSTS;
 use memory::BYTES;
 use memory::WORDS;
 use model::PIECE;
-use record_step::Record;
+use record_kinds::Record;
 use request_answer::Reply;
 
 // Two bytes as a number, the low one first.

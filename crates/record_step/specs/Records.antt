@@ -1,10 +1,8 @@
--- The constant tables of kinds and the open callback as the code has them, and what one record promises. Assumes nothing.
+-- The open callback as the code has it, and what one record promises. Assumes nothing.
 use mathlib.Core.Path.{_≡_}
-use mathlib.Core.Bool.{Bool, true, false}
-use mathlib.Core.List.{List, _∷_, []}
+use mathlib.Core.List.{List}
 use Prim.Native.Nat.{ℕ}
 use lib.Dec.{eqb}
-use lib.IntN.{pos, negsuc}
 use Rattle.model.specs.Logic.{if_then_else_}
 use Rattle.model.specs.State.{State}
 use Rattle.model.specs.Records.{Rec}
@@ -17,26 +15,6 @@ use Rattle.request_answer.specs.Promises.{replyOf, Stays}
 use Rattle.record_step.specs.declared.CallbackKind.the-variants.{Suspend, Resume, Idle}
 use Rattle.record_step.specs.declared.Callback.{Callback}
 use Rattle.record_step.specs.declared.Callback.the-variants.{None, Open}
-use Rattle.record_step.specs.declared.Record.{Record}
-use Rattle.record_step.specs.declared.Bounds as declared
-
-abbrev pub recOf : Record → Rec
-recOf r = record { kind = r .kind; device = r .device; value = r .value }
-
--- ---- the constant tables, a column of the model's table each
-abbrev pub noBounds : declared.Bounds
-noBounds = record { 0 = pos 0; 1 = pos 0 }
-
-abbrev pub boundsTable : List declared.Bounds
-boundsTable =
-    noBounds ∷ noBounds ∷ noBounds ∷ noBounds ∷ noBounds ∷ noBounds ∷ noBounds ∷ noBounds ∷ noBounds ∷ noBounds ∷ noBounds ∷ noBounds
-    ∷ record { 0 = pos 0; 1 = pos 1 } ∷ record { 0 = negsuc 4094; 1 = pos 0 } ∷ []
-
-abbrev pub wholeTable : List Bool
-wholeTable = false ∷ false ∷ false ∷ false ∷ false ∷ false ∷ false ∷ false ∷ false ∷ false ∷ false ∷ false ∷ false ∷ false ∷ []
-
-abbrev pub alwaysTable : List Bool
-alwaysTable = false ∷ false ∷ false ∷ false ∷ false ∷ false ∷ false ∷ false ∷ false ∷ false ∷ false ∷ false ∷ false ∷ true ∷ []
 
 -- ---- the open callback by its kind's number: every number but 0 to 2 is read as idle, as the model does
 unfoldable pub openedAs : ℕ → ℕ → ℕ → Callback

@@ -6,7 +6,7 @@ use keeper_bench::methods::Outcome;
 use keeper_bench::methods::Requested;
 use memory::BYTES;
 use memory::WORDS;
-use record_step::Record;
+use record_kinds::Record;
 use test_words::name_in;
 use test_words::number_in;
 

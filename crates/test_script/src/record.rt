@@ -10,7 +10,7 @@ use crate::texts::say;
 use keeper_bench::Bench;
 use keeper_bench::methods::Outcome;
 use keeper_bench::methods::Requested;
-use record_step::Record;
+use record_kinds::Record;
 use test_words::byte_at;
 use test_words::number_in;
 

@@ -37,14 +37,6 @@ returns-2 c =
       stays = c .result .ensures .stays;
     }
 
-busy-requires : tie.Need-busy-requires
-busy-requires c κs =
-    let kinded = c .before in
-    let fine = kinded .before in
-    let judged = fine .before in
-    let start = judged .before .before .before in
-    well-formed (at-start start) _ (judged .before .devices .ensures (start .args .words .now)) (judged .fault .ensures) (fine .if1 .left) .high
-
 -- a callback is open
 returns-3 : tie.Need-returns-3
 returns-3 c =
@@ -84,5 +76,5 @@ returns-4 c =
 pub step-spec : {M : Type 1} → statement M
 step-spec =
     tie.close
-    (tie.spec (λ c κs. search needs) (λ c κs. search needs) (λ c κs. search needs) returns (λ c κs. search needs) returns-2 busy-requires
+    (tie.spec (λ c κs. search needs) (λ c κs. search needs) (λ c κs. search needs) returns (λ c κs. search needs) returns-2 (λ c κs. search needs)
     (λ c κs. search needs) returns-3 (λ c κs. search needs) returns-4)

@@ -16,8 +16,8 @@ use mir.ValLaws.{toZ-ofZ}
 use borrow.Author.Tests.{lt-ltb, le-ltb, lt-leb, le-leb}
 use Rattle.model.proofs.Logic.{all-iff}
 use Rattle.model.specs.Records.{LAST, Bounds, Kind, zeroOnly, plain, kinds, kindOf, signed, allowed}
-use Rattle.record_step.specs.declared.Bounds as declared
-use Rattle.record_step.specs.Records.{noBounds, boundsTable, wholeTable, alwaysTable}
+use Rattle.record_kinds.specs.declared.Bounds as declared
+use Rattle.record_kinds.specs.Kinds.{noBounds, boundsTable, wholeTable, alwaysTable}
 
 pub low : (v : ℕ) → v < 32768 → toZ w16 v ≡ pos v
 low v l = rw (lt-ltb v 32768 l)

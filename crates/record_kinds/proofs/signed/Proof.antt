@@ -1,11 +1,11 @@
--- `record_step::signed` meets its contract: bits from 32,768 on stand for -1 less what is missing to 65,535. Assumes nothing.
+-- `record_kinds::signed` meets its contract: bits from 32,768 on stand for -1 less what is missing to 65,535. Assumes nothing.
 use mathlib.Core.Path.{_∙_}
 use Prim.Native.Nat.{_-_, _<_}
 use native.Mathlib.Omega.{arith}
-use Rattle.record_step.proofs.Signs.{low, signed-low, less, signed-high, fits, through}
+use Rattle.record_kinds.proofs.Signs.{low, signed-low, less, signed-high, fits, through}
 use borrow.Author.Needs.{needs}
-use Rattle.record_step.proofs.signed.Statement.{statement}
-use Rattle.record_step.proofs.signed.Tie as tie
+use Rattle.record_kinds.proofs.signed.Statement.{statement}
+use Rattle.record_kinds.proofs.signed.Tie as tie
 
 -- what is missing to 65,535 is small
 small : (c : tie.Else1) → 65535 - c .before .args .value < 32768

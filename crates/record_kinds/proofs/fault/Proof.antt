@@ -3,8 +3,8 @@ use Rattle.model.specs.Logic.{_and_, _or_, if_then_else_}
 use native.Mathlib.Omega.{arith}
 use borrow.Author.Tests.{le-leb, lt-leb}
 use Rattle.model.specs.Records.{fault}
-use Rattle.record_step.proofs.fault.Statement.{statement}
-use Rattle.record_step.proofs.fault.Tie as tie
+use Rattle.record_kinds.proofs.fault.Statement.{statement}
+use Rattle.record_kinds.proofs.fault.Tie as tie
 
 -- kind 0
 returns : tie.Need-returns
@@ -19,7 +19,10 @@ returns-2 c = rw (le-leb _ _ (c .before .if1 .left), lt-leb _ _ (c .if2 .taken))
 -- no such device
 returns-3 : tie.Need-returns-3
 unfolding fault if_then_else_ _and_ _or_
-returns-3 c = let k = c .before in rw (le-leb _ _ (k .before .if1 .left), le-leb _ _ (k .if2 .left), le-leb _ _ (c .if3 .taken))
+returns-3 c =
+    let k = c .before in
+    let start = k .before .before in
+    rw (le-leb _ _ (k .before .if1 .left), le-leb _ _ (k .if2 .left), le-leb (start .args .n) (start .args .r .device) (c .if3 .taken))
 
 misplaced-requires : tie.Need-misplaced-requires
 misplaced-requires c κs = let z = c .before .if2 .left in omega arith

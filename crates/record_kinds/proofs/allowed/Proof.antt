@@ -2,11 +2,11 @@
 use lib.ListN.{getD}
 use mir.Syntax.{w16}
 use mir.Val.{SFits}
-use Rattle.record_step.specs.Records.{noBounds, boundsTable}
-use Rattle.record_step.proofs.Signs.{zero-allowed, through, signed-through, allowed-no, allowed-if}
+use Rattle.record_kinds.specs.Kinds.{noBounds, boundsTable}
+use Rattle.record_kinds.proofs.Signs.{zero-allowed, through, signed-through, allowed-no, allowed-if}
 use borrow.Author.Needs.{needs}
-use Rattle.record_step.proofs.allowed.Statement.{statement}
-use Rattle.record_step.proofs.allowed.Tie as tie
+use Rattle.record_kinds.proofs.allowed.Statement.{statement}
+use Rattle.record_kinds.proofs.allowed.Tie as tie
 
 -- the start, from where the two bounds of the kind are read
 abbrev start : tie.After-struct-told2 → tie.Start

@@ -1,9 +1,9 @@
 -- The constant table is the model's column. Assumes nothing.
 use Rattle.model.specs.Logic.{_and_}
-use Rattle.record_step.proofs.Signs.{whole-at}
+use Rattle.record_kinds.proofs.Signs.{whole-at}
 use borrow.Author.Needs.{needs}
-use Rattle.record_step.proofs.misplaced.Statement.{statement}
-use Rattle.record_step.proofs.misplaced.Tie as tie
+use Rattle.record_kinds.proofs.misplaced.Statement.{statement}
+use Rattle.record_kinds.proofs.misplaced.Tie as tie
 
 -- a kind about the whole bench
 returns : tie.Need-returns
