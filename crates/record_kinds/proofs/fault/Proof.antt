@@ -2,7 +2,7 @@
 use Rattle.model.specs.Logic.{_and_, _or_, if_then_else_}
 use native.Mathlib.Omega.{arith}
 use borrow.Author.Tests.{le-leb, lt-leb}
-use Rattle.model.specs.Records.{fault}
+use Rattle.model.specs.Records.{LAST, fault}
 use Rattle.record_kinds.proofs.fault.Statement.{statement}
 use Rattle.record_kinds.proofs.fault.Tie as tie
 
@@ -14,7 +14,9 @@ returns c = rw (lt-leb _ _ (c .if1 .taken))
 -- a kind past the last
 returns-2 : tie.Need-returns-2
 unfolding fault if_then_else_ _and_
-returns-2 c = rw (le-leb _ _ (c .before .if1 .left), lt-leb _ _ (c .if2 .taken))
+returns-2 c =
+    let start = c .before .before in
+    rw (le-leb _ _ (c .before .if1 .left), lt-leb (start .args .r .kind) LAST (c .if2 .taken))
 
 -- no such device
 returns-3 : tie.Need-returns-3

@@ -15,7 +15,9 @@ returns c = rw (← c .before .byte-at .ensures, lt-leb _ _ (c .if1 .taken))
 -- too many devices
 returns-2 : tie.Need-returns-2
 unfolding limitsGood DEVICES _and_
-returns-2 c = rw (← c .before .before .byte-at .ensures, le-leb _ _ (c .before .if1 .left), lt-leb _ _ (c .if2 .taken))
+returns-2 c =
+    let read = c .before .before in
+    rw (← read .byte-at .ensures, le-leb _ _ (c .before .if1 .left), lt-leb (read .byte-at .result) DEVICES (c .if2 .taken))
 
 -- the links are within their limit, or not
 returns-3 : tie.Need-returns-3
