@@ -75,7 +75,7 @@ pub fn word(s: &[u8], k: usize, between: u8) -> Part
 }
 
 // The value of a hexadecimal digit, 16 for any other byte.
-pub fn digit(b: u8) -> u8
+fn digit(b: u8) -> u8
     ensures { λ r. ⌜ r ≡ digitOf b ⌝ }
 {
     if b < 48 {
@@ -132,7 +132,7 @@ fn minus(v: u32) -> u32
 }
 
 // The number that a text stands for, a negative one as 65,536 less its magnitude; 0 for no text.
-pub fn number(s: &[u8]) -> u32
+fn number(s: &[u8]) -> u32
     ensures { λ r. ⌜ r ≡ numberOf (now (s .entry)) ⌝ }
 {
     if byte_at(s, 0) == b'-' {
@@ -220,7 +220,7 @@ fn member(group: &[u8], step: &[u8], k: usize, c: u32) -> u8
 }
 
 // A byte stored at a place of a buffer, if there is room: the place after it.
-pub fn put(out: &mut [u8], at: usize, b: u8) -> usize {
+fn put(out: &mut [u8], at: usize, b: u8) -> usize {
     if at < out.len() {
         out[at] = b;
         return at + 1;
