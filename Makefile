@@ -1,4 +1,5 @@
-# make run       the program replay, proved and built, on the worked day of examples/day
+# make run       the program replay, compiled without a proof, on the worked day of examples/day: some seconds
+# make replay    the same program, proved and built
 # make scripts   the test programs on their scripts, proved, built and run
 # make test      the gate: every check, ending with the toolchain's verdict
 # make sample    the definitions against the second implementation; SEED and COUNT choose the cases
@@ -21,9 +22,12 @@ PIN := $(shell command -v taskset > /dev/null && echo taskset -c 0)
 
 DAY := examples/day
 
-run: replay
+run:
+	@echo "step 1 of 2: compiling the program; 'make test' proves the same files, 'make replay' builds it proved"
+	@tests/archives $(UNPROVED) replay_program > /dev/null
+	@cd host && KEEPER_ARCHIVES=$(UNPROVED) cargo build --release --offline --quiet
 	@mkdir -p target/day
-	@echo "the log of $(DAY), replayed in pieces of 5 bytes:"
+	@echo "step 2 of 2: the log of $(DAY), replayed in pieces of 5 bytes:"
 	@host/target/release/replay $(DAY)/table.bin $(DAY)/log.bin target/day/replies.bin 5
 	@echo "each record of the log, and the reply to it:"
 	@examples/show $(DAY)/log.bin target/day/replies.bin
@@ -32,7 +36,7 @@ run: replay
 # the program, with its exit status. The crates below it are proved two at a time, which `rt staticlib` would not do; each is named as it
 # is proved, and a crate that has not changed is not proved again.
 replay:
-	@echo "step 1 of 3: proving the keeper and the program, crate by crate (some three minutes on two cores)"
+	@echo "step 1 of 3: proving the keeper and the program, crate by crate (some four minutes on two cores)"
 	@rt check replay_log 2>&1 | grep --line-buffered -E '^rt:| error: '
 	@echo "step 2 of 3: building the proved library"
 	@rt staticlib replay_program 2>&1 | grep --line-buffered -E '^rt:| error: '
