@@ -91,6 +91,7 @@ compare:
 states:
 	tests/compare/target/release/compare tables $(SEED) $(TABLES)
 	tests/compare/target/release/compare benches $(SEED) $(BENCHES)
+	tests/compare/target/release/compare unordered $(SEED) $(BENCHES)
 	tests/compare/target/release/compare records $(SEED) $(RECORDS)
 	tests/compare/target/release/compare questions $(SEED) $(QUESTIONS)
 

@@ -5,7 +5,8 @@
 //! `compare records SEED COUNT` gives both random logs, a record at a time, from
 //! so many random benches; `compare feed SEED COUNT` gives them so many logs in
 //! random pieces; `compare questions SEED COUNT` asks every question and calls
-//! every method on so many random benches and on damaged ones. It ends with
+//! every method on so many random benches and on damaged ones; `compare
+//! unordered SEED COUNT` asks for wake sets of damaged memories. It ends with
 //! status 1 at the first difference, and where 200 benches or more leave out an
 //! answer of document 01.
 //! `compare bench` times both.
@@ -22,6 +23,7 @@ mod records;
 mod speed;
 mod starts;
 mod tables;
+mod unordered;
 
 use std::process::ExitCode;
 
@@ -34,7 +36,7 @@ fn main() -> ExitCode {
     }
     let Some(outcome) = outcome(&words) else {
         eprintln!(
-            "usage: compare tables|benches|records|questions|feed SEED COUNT, or compare bench"
+            "usage: compare tables|benches|unordered|records|questions|feed SEED COUNT, or compare bench"
         );
         return ExitCode::from(2);
     };
@@ -64,6 +66,7 @@ fn outcome(words: &[&str]) -> Option<Result<String, String>> {
                 .map_err(|difference| difference.to_string()),
         ),
         "benches" => Some(benches::compare(seed, count)),
+        "unordered" => Some(unordered::compare(seed, count)),
         "records" => Some(records::compare(seed, count)),
         "questions" => Some(questions::compare(seed, count)),
         "feed" => Some(feed::compare(seed, count)),
