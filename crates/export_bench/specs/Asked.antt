@@ -1,13 +1,9 @@
 -- The public questions by their numbers, the answer as one number. Assumes nothing.
 use mathlib.Core.List.{List, [], _∷_}
-use Prim.Native.Nat.{ℕ, _+_, _*_}
+use Prim.Native.Nat.{ℕ}
 use lib.ListN.{getD}
 use Rattle.model.specs.State.{State}
 use Rattle.model.specs.Questions.{Told, tellStatus, tellHolds, tellUsage, tellChildren, tellWake, tellAbove}
-
--- a refusal's number and 256 times what is told
-abbrev pub toldCode : Told → ℕ
-toldCode t = t .number + 256 * t .value
 
 -- the answers about p, by the numbers of the questions
 unfoldable pub answersAbout : State → ℕ → List Told

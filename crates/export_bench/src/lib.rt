@@ -6,64 +6,19 @@ ghost use Rattle.request_answer.specs.Promises.{replyOf};
 ghost use Rattle.model.specs.Methods.{requested};
 ghost use Rattle.keeper_bench.specs.Translate.{stateOf};
 ghost use Rattle.keeper_bench.specs.Methods.{numberIn, replyIn, requestedOf};
-ghost use Rattle.keeper_questions.specs.Told.{statusOf, statusTold, numberTold, memberTold};
-ghost use Rattle.export_bench.specs.Asked.{toldCode, askedOf};
+ghost use Rattle.keeper_questions.specs.Told.{toldCode};
+ghost use Rattle.export_bench.specs.Asked.{askedOf};
 ghost use Rattle.export_bench.specs.Called.{packed, methodOf, CalledIs};
-use basics::long8;
-use basics::long32;
 use basics::word8;
 use keeper_bench::Bench;
 use keeper_bench::methods::Outcome;
 use keeper_bench::methods::Requested;
-use keeper_questions::MemberAnswer;
-use keeper_questions::NumberAnswer;
-use keeper_questions::Status;
-use keeper_questions::StatusAnswer;
+use keeper_questions::member_code;
+use keeper_questions::number_code;
+use keeper_questions::status_code;
 use memory::BYTES;
 use memory::WORDS;
 use request_answer::Reply;
-
-fn status_number(status: Status) -> u8
-    ensures { λ r. ⌜ r ≡ statusOf status ⌝ }
-{
-    match status {
-        Status::Suspended => 0,
-        Status::Resuming => 1,
-        Status::Active => 2,
-        Status::Suspending => 3,
-    }
-}
-
-// An answer as one number, for each kind of answer: the refusal's number and 256 times what is told.
-fn status_code(answer: StatusAnswer) -> u64
-    ensures { λ r. ⌜ r ≡ toldCode (statusTold answer) ⌝ }
-{
-    match answer {
-        StatusAnswer::Unsound => 21,
-        StatusAnswer::Unknown => 24,
-        StatusAnswer::Is(status) => 256 * long8(status_number(status)),
-    }
-}
-
-fn number_code(answer: NumberAnswer) -> u64
-    ensures { λ r. ⌜ r ≡ toldCode (numberTold answer) ⌝ }
-{
-    match answer {
-        NumberAnswer::Unsound => 21,
-        NumberAnswer::Unknown => 24,
-        NumberAnswer::Is(x) => 256 * long32(x),
-    }
-}
-
-fn member_code(answer: MemberAnswer) -> u64
-    ensures { λ r. ⌜ r ≡ toldCode (memberTold answer) ⌝ }
-{
-    match answer {
-        MemberAnswer::Unsound => 21,
-        MemberAnswer::Unknown => 24,
-        MemberAnswer::Is(member) => if member { 256 } else { 0 },
-    }
-}
 
 // A question on the memory of a bench: status, user holds, usage count, child count and parents above from 0 on, else the membership of
 // device q in the wake set of device p.

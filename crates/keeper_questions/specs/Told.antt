@@ -1,7 +1,7 @@
 -- The answers to the public questions in the model's words. Assumes nothing.
 use mathlib.Core.Path.{_≡_}
 use mathlib.Core.Bool.{Bool, true}
-use Prim.Native.Nat.{ℕ}
+use Prim.Native.Nat.{ℕ, _+_, _*_}
 use Rattle.model.specs.Logic.{bit}
 use Rattle.model.specs.State.{State, SUSPENDED, RESUMING, ACTIVE, SUSPENDING}
 use Rattle.model.specs.Sound.{Sound}
@@ -47,3 +47,7 @@ abbrev pub memberTold : MemberAnswer → Told
 memberTold member.Unsound = toldBy check.Unsound 0
 memberTold member.Unknown = toldBy check.Unknown 0
 memberTold (member.Is b) = toldBy check.Passed (bit b)
+
+-- an answer as one number: the refusal's number and 256 times what is told
+abbrev pub toldCode : Told → ℕ
+toldCode t = t .number + 256 * t .value

@@ -7,7 +7,9 @@ ghost use Rattle.model.specs.Logic.{_or_, bit};
 ghost use Rattle.model.specs.State.{SUSPENDING};
 ghost use Rattle.model.specs.Questions.{tellStatus, tellHolds, tellUsage, tellChildren, tellWake, tellAbove};
 ghost use Rattle.keeper_bench.specs.Translate.{stateOf};
-ghost use Rattle.keeper_questions.specs.Told.{statusOf, toldBy, Checked, statusTold, numberTold, memberTold};
+ghost use Rattle.keeper_questions.specs.Told.{statusOf, toldBy, Checked, statusTold, numberTold, memberTold, toldCode};
+use basics::long8;
+use basics::long32;
 use basics::word8;
 use keeper_bench::Bench;
 use memory::children;
@@ -191,4 +193,49 @@ pub fn parents_above(b: Bench, device: u8) -> NumberAnswer
 {
     let check = about(b, device);
     tell_number(check, word8(wakeset::parents_above(&b.bytes, device)))
+}
+
+// ---- answers as numbers
+
+// The number of a status.
+fn status_number(status: Status) -> u8
+    ensures { λ r. ⌜ r ≡ statusOf status ⌝ }
+{
+    match status {
+        Status::Suspended => 0,
+        Status::Resuming => 1,
+        Status::Active => 2,
+        Status::Suspending => 3,
+    }
+}
+
+// An answer as one number, for each kind of answer: the refusal's number and 256 times what is told.
+pub fn status_code(answer: StatusAnswer) -> u64
+    ensures { λ r. ⌜ r ≡ toldCode (statusTold answer) ⌝ }
+{
+    match answer {
+        StatusAnswer::Unsound => 21,
+        StatusAnswer::Unknown => 24,
+        StatusAnswer::Is(status) => 256 * long8(status_number(status)),
+    }
+}
+
+pub fn number_code(answer: NumberAnswer) -> u64
+    ensures { λ r. ⌜ r ≡ toldCode (numberTold answer) ⌝ }
+{
+    match answer {
+        NumberAnswer::Unsound => 21,
+        NumberAnswer::Unknown => 24,
+        NumberAnswer::Is(x) => 256 * long32(x),
+    }
+}
+
+pub fn member_code(answer: MemberAnswer) -> u64
+    ensures { λ r. ⌜ r ≡ toldCode (memberTold answer) ⌝ }
+{
+    match answer {
+        MemberAnswer::Unsound => 21,
+        MemberAnswer::Unknown => 24,
+        MemberAnswer::Is(member) => if member { 256 } else { 0 },
+    }
 }

@@ -2,10 +2,7 @@
 use crate::texts;
 use crate::texts::say;
 use keeper_bench::Bench;
-use keeper_questions::MemberAnswer;
 use keeper_questions::NumberAnswer;
-use keeper_questions::Status;
-use keeper_questions::StatusAnswer;
 use memory::BYTES;
 use memory::WORDS;
 
@@ -56,38 +53,13 @@ pub fn four(x: u32) {
     byte(x / 16777216);
 }
 
-fn status_number(s: Status) -> u32 {
-    match s {
-        Status::Suspended => 0,
-        Status::Resuming => 1,
-        Status::Active => 2,
-        Status::Suspending => 3,
+// The answer to a question, by its number: a refusal's above REFUSAL, or what is told.
+pub fn told(code: u64) -> u32 {
+    let number = (code % 256) as u32;
+    if number != 0 {
+        return REFUSAL + number;
     }
-}
-
-// The answers to questions as numbers.
-pub fn status_answer(a: StatusAnswer) -> u32 {
-    match a {
-        StatusAnswer::Unsound => REFUSAL + 21,
-        StatusAnswer::Unknown => REFUSAL + 24,
-        StatusAnswer::Is(s) => status_number(s),
-    }
-}
-
-pub fn number_answer(a: NumberAnswer) -> u32 {
-    match a {
-        NumberAnswer::Unsound => REFUSAL + 21,
-        NumberAnswer::Unknown => REFUSAL + 24,
-        NumberAnswer::Is(x) => x,
-    }
-}
-
-pub fn member_answer(a: MemberAnswer) -> u32 {
-    match a {
-        MemberAnswer::Unsound => REFUSAL + 21,
-        MemberAnswer::Unknown => REFUSAL + 24,
-        MemberAnswer::Is(x) => x as u32,
-    }
+    (code / 256 % 4294967296) as u32
 }
 
 // An answer: the number of the refusal, or what was asked for, by name where there are names.
@@ -106,7 +78,7 @@ pub fn answer(names: usize, x: u32) {
 // A count of a device, as the question tells it.
 fn count(k: usize, a: NumberAnswer) {
     say(k);
-    answer(NUMBER, number_answer(a));
+    answer(NUMBER, told(keeper_questions::number_code(a)));
 }
 
 // The open callback, if there is one.
@@ -144,7 +116,7 @@ fn cells<'a>(bytes: &'a [u8; BYTES], words: &'a [u32; WORDS], p: u8) {
 pub fn state(b: Bench, p: u8) {
     answer(
         texts::SUSPENDED,
-        status_answer(keeper_questions::status_of(b, p)),
+        told(keeper_questions::status_code(keeper_questions::status_of(b, p))),
     );
     count(texts::USAGE, keeper_questions::usage_count(b, p));
     count(texts::CHILDREN, keeper_questions::child_count(b, p));

@@ -1,7 +1,7 @@
--- `export_bench::member_code` meets its contract: a refusal's number, or 256 times the value. Assumes nothing.
+-- `keeper_questions::member_code` meets its contract: a refusal's number, or 256 times the value. Assumes nothing.
 use borrow.Author.Needs.{needs}
-use Rattle.export_bench.proofs.member_code.Statement.{statement}
-use Rattle.export_bench.proofs.member_code.Tie as tie
+use Rattle.keeper_questions.proofs.member_code.Statement.{statement}
+use Rattle.keeper_questions.proofs.member_code.Tie as tie
 
 -- a bench that is not sound
 returns : tie.Need-returns
