@@ -86,7 +86,7 @@ disable s p =
     if eqb (depthAt s p) MAXDEPTH then finished s p (minus EOVERFLOW)
     else finished (withDepth s p (depthAt s p + 1)) p 0
 
--- kind 3, get: the user holds rise by 1; at 32,767: -75 (house)
+-- kind 3, get: the user holds rise by 1; at 32,767 (or past it, which no sound bench is): -75 (house)
 unfoldable pub get : State → ℕ → Done
 get s p =
     if leb MAXHOLDS (holdsAt s p) then finished s p (minus EOVERFLOW)
