@@ -15,6 +15,8 @@ RECORDS ?= 30000
 QUESTIONS ?= 600
 FEEDS ?= 100000
 UNPROVED := $(CURDIR)/target/unproved
+# where the toolchain copies what it loads: in memory, where that can be
+export TMPDIR := $(shell tests/scratch)
 # one core for the times, where that can be asked for
 PIN := $(shell command -v taskset > /dev/null && echo taskset -c 0)
 

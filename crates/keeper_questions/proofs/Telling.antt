@@ -1,14 +1,11 @@
 -- How the public questions are answered. Assumes nothing.
-use mathlib.Core.Path.{_≡_, refl, _∙_, ap}
+use mathlib.Core.Path.{_≡_, _∙_, ap}
 use mathlib.Core.Bool.{Bool, true, not}
-use mathlib.Core.List.{[], _∷_}
 use Prim.Native.Nat.{ℕ, _<_}
 use native.Mathlib.Omega.{arith}
 use native.Mathlib.Decide.{decLt}
 use lib.ListN.{getD}
 use lib.Dec.{ltb, leb, eqb}
-use types.Run.{OneOf}
-use denote.Enum.Declared.{tagOf}
 use borrow.Author.Tests.{lt-ltb, le-ltb, lt-leb, le-leb}
 use Rattle.model.specs.Limits.{LINKS}
 use Rattle.model.specs.Logic.{_and_, tally}
@@ -17,20 +14,12 @@ use Rattle.model.proofs.Basics.{few-rows}
 use Rattle.model.proofs.Counting.{at-linked, count-low}
 use Rattle.model.specs.Sound.{Sound}
 use Rattle.model.specs.Questions.{Told, told}
-use Rattle.keeper_questions.specs.declared.Check.{Check}
-use Rattle.keeper_questions.specs.declared.Check.the-variants.{Unsound, Unknown, Passed}
-use Rattle.keeper_questions.proofs.Check.{the-type}
-use Rattle.keeper_questions.specs.Told.{toldBy, Checked}
+use Rattle.keeper_answers.specs.declared.Check.{Check}
+use Rattle.keeper_answers.specs.Told.{toldBy, Checked}
 
 -- p is below n: n is not at most p
 pub below : (p n : ℕ) → ltb p n ≡ not (leb n p)
 below p n = elim (decLt p n) [ yes l ↦ rw (lt-ltb p n l, lt-leb n p l) | no g ↦ rw (le-ltb p n (omega arith), le-leb n p (omega arith)) ]
-
--- the last variant tells the value
-pub last-told : (c : Check) → OneOf (2 ∷ []) (tagOf the-type c) → (v : ℕ) → record { number = 0; value = v } ≡ toldBy c v
-last-told Unsound h v = absurd (omega arith)
-last-told Unknown h v = absurd (omega arith)
-last-told Passed h v = refl
 
 -- what a question answers, from what it checks and reads
 pub answered : {s : State} {known : Bool} {c : Check} {t : Told} {v w : ℕ} → Checked s known c → t ≡ toldBy c v → (Sound s → known ≡ true → v ≡ w) → t ≡ told s known w

@@ -3,7 +3,8 @@ use Prim.Native.Nat.{ℕ}
 use Rattle.model.specs.State.{State, statusAt, holdsAt, linkedAt, childrenAt, depthAt, errorAt}
 use Rattle.replay_text.specs.Line.{lineOf}
 use Rattle.replay_text.specs.declared.line.Line.{Line}
-use Rattle.replay_report.specs.Lines.{repliesText, carriedText, callbackText, deviceText}
+use Rattle.replay_report.specs.Lines.{repliesText, carriedText, callbackText}
+use Rattle.replay_row.specs.Rows.{deviceText}
 use Rattle.replay_pieces.specs.declared.turn.Progress.{Progress}
 
 abbrev pub repliesLine : Progress → Line

@@ -4,7 +4,7 @@ ghost use Rattle.keeper_bench.specs.Translate.{stateOf};
 ghost use Rattle.replay_pieces.specs.Lines.{repliesLine, carriedLine, callbackLine, deviceLine};
 use crate::turn::Progress;
 use keeper_bench::Bench;
-use replay_report::Row;
+use replay_row::Row;
 use replay_text::line::Line;
 
 // The number of replies.
@@ -40,13 +40,13 @@ pub fn device(bench: Bench, p: u8) -> Line
 {
     let bytes = bench.bytes;
     let words = bench.words;
-    let status = memory::status(&bytes, p);
-    let holds = memory::holds(&words, p);
-    let linked = memory::linked(&words, p);
-    let children = memory::children(&bytes, p);
-    let depth = memory::depth(&bytes, p);
-    let error = memory::error(&words, p);
-    replay_report::device(
+    let status = memory_rows::status(&bytes, p);
+    let holds = memory_rows::holds(&words, p);
+    let linked = memory_rows::linked(&words, p);
+    let children = memory_rows::children(&bytes, p);
+    let depth = memory_rows::depth(&bytes, p);
+    let error = memory_rows::error(&words, p);
+    replay_row::device(
         p,
         Row {
             status: status,

@@ -2,7 +2,7 @@
 use mathlib.Core.Path.{_≡_, refl}
 use Rattle.model.specs.Logic.{if_then_else_}
 use Rattle.replay_text.specs.Text.{ascii, digitsUpTo, decimal}
-use Rattle.replay_report.specs.Lines.{refusedText, repliesText, callbackText, statusText, signText, deviceText}
+use Rattle.replay_report.specs.Lines.{refusedText, repliesText, callbackText}
 
 refused : refusedText (record { number = 7; index = 127 }) ≡ ascii "table refused 7 127\n"
 unfolding ascii decimal digitsUpTo if_then_else_ refusedText
@@ -15,11 +15,3 @@ most-replies = refl
 waking : callbackText 2 0 10 ≡ ascii "callback resume 0 for 10\n"
 unfolding ascii decimal digitsUpTo if_then_else_ callbackText
 waking = refl
-
-failed : deviceText 2 3 32767 63 100 255 4095 ≡ ascii "device 2 status suspending usage 32830 children 100 holds 32767 depth 255 error -4095\n"
-unfolding ascii decimal digitsUpTo if_then_else_ statusText signText deviceText
-failed = refl
-
-loaded : deviceText 0 0 0 0 0 1 0 ≡ ascii "device 0 status suspended usage 0 children 0 holds 0 depth 1 error 0\n"
-unfolding ascii decimal digitsUpTo if_then_else_ statusText signText deviceText
-loaded = refl

@@ -38,10 +38,10 @@ fn link_ascends<'a>(bytes: &'a [u8; BYTES], i: usize) -> bool
     ensures { λ r. ⌜ Says (λ s. ascendsIn (s .wiring) i) (now (bytes .entry)) r ⌝ }
 {
     comes_before(
-        memory::consumer(bytes, i),
-        memory::supplier(bytes, i),
-        memory::consumer(bytes, i + 1),
-        memory::supplier(bytes, i + 1),
+        memory_rows::consumer(bytes, i),
+        memory_rows::supplier(bytes, i),
+        memory_rows::consumer(bytes, i + 1),
+        memory_rows::supplier(bytes, i + 1),
     )
 }
 
@@ -67,8 +67,8 @@ fn recount_children<'a>(bytes: &'a [u8; BYTES], n: u8) -> [u8; ROWS]
     let mut counts = [0u8; ROWS];
     let mut k: u8 = 0;
     while k < n {
-        let parent = memory::parent(bytes, k);
-        let bit = child_bit(parent, memory::status(bytes, k));
+        let parent = memory_rows::parent(bytes, k);
+        let bit = child_bit(parent, memory_rows::status(bytes, k));
         let q = row(parent);
         counts[q] = counts[q] + bit;
         k += 1;
@@ -85,10 +85,10 @@ fn recount_linked<'a>(bytes: &'a [u8; BYTES], m: usize) -> [u32; ROWS]
     let mut k: usize = 0;
     while k < m {
         let bit = live_bit(
-            memory::status(bytes, memory::consumer(bytes, k)),
-            memory::flags(bytes, k),
+            memory_rows::status(bytes, memory_rows::consumer(bytes, k)),
+            memory_rows::flags(bytes, k),
         );
-        let q = row(memory::supplier(bytes, k));
+        let q = row(memory_rows::supplier(bytes, k));
         counts[q] = counts[q] + bit;
         k += 1;
     }

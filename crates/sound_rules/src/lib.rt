@@ -42,7 +42,7 @@ pub fn parents_good<'a>(bytes: &'a [u8; BYTES], n: u8) -> bool
     let mut good = true;
     let mut p: u8 = 0;
     while p < n {
-        good = both(parent_good(p, memory::parent(bytes, p)), good);
+        good = both(parent_good(p, memory_rows::parent(bytes, p)), good);
         p += 1;
     }
     good
@@ -56,7 +56,11 @@ pub fn links_fit<'a>(bytes: &'a [u8; BYTES], n: u8, m: usize) -> bool
     let mut i: usize = 0;
     while i < m {
         good = both(
-            ends_good(n, memory::consumer(bytes, i), memory::supplier(bytes, i)),
+            ends_good(
+                n,
+                memory_rows::consumer(bytes, i),
+                memory_rows::supplier(bytes, i),
+            ),
             good,
         );
         i += 1;
@@ -99,12 +103,12 @@ fn link_rests(consumer: u8, flags: u8, supplier: u8) -> bool
 fn parent_supplies<'a>(bytes: &'a [u8; BYTES], p: u8) -> bool
     ensures { λ r. ⌜ Says (λ s. parentSupplies (s .wiring) (s .devices .status) p) (now (bytes .entry)) r ⌝ }
 {
-    let q = memory::parent(bytes, p);
+    let q = memory_rows::parent(bytes, p);
     child_rests(
-        memory::status(bytes, p),
+        memory_rows::status(bytes, p),
         q,
-        memory::ignore(bytes, q),
-        memory::status(bytes, q),
+        memory_rows::ignore(bytes, q),
+        memory_rows::status(bytes, q),
     )
 }
 
@@ -125,12 +129,12 @@ pub fn parents_supply<'a>(bytes: &'a [u8; BYTES], n: u8) -> bool
 fn link_supplies<'a>(bytes: &'a [u8; BYTES], i: usize) -> bool
     ensures { λ r. ⌜ Says (λ s. linkSupplies (s .wiring) (s .devices .status) i) (now (bytes .entry)) r ⌝ }
 {
-    let c = memory::consumer(bytes, i);
-    let s = memory::supplier(bytes, i);
+    let c = memory_rows::consumer(bytes, i);
+    let s = memory_rows::supplier(bytes, i);
     link_rests(
-        memory::status(bytes, c),
-        memory::flags(bytes, i),
-        memory::status(bytes, s),
+        memory_rows::status(bytes, c),
+        memory_rows::flags(bytes, i),
+        memory_rows::status(bytes, s),
     )
 }
 

@@ -1,8 +1,8 @@
 // What is written to standard output.
 use crate::texts;
 use crate::texts::say;
+use keeper_answers::NumberAnswer;
 use keeper_bench::Bench;
-use keeper_questions::NumberAnswer;
 use memory::BYTES;
 use memory::WORDS;
 
@@ -78,7 +78,7 @@ pub fn answer(names: usize, x: u32) {
 // A count of a device, as the question tells it.
 fn count(k: usize, a: NumberAnswer) {
     say(k);
-    answer(NUMBER, told(keeper_questions::number_code(a)));
+    answer(NUMBER, told(keeper_answers::number_code(a)));
 }
 
 // The open callback, if there is one.
@@ -94,14 +94,14 @@ fn callback(kind: u8, asked: u8, target: u8) {
 
 // The cells of device p that no question tells, and the open callback.
 fn cells<'a>(bytes: &'a [u8; BYTES], words: &'a [u32; WORDS], p: u8) {
-    let error = memory::error(words, p);
-    field(texts::DEPTH, memory::depth(bytes, p) as u64);
+    let error = memory_rows::error(words, p);
+    field(texts::DEPTH, memory_rows::depth(bytes, p) as u64);
     field(
         pick(error == 0, texts::ERROR, texts::NEGATIVE),
         error as u64,
     );
     say(pick(
-        memory::ignore(bytes, p) == 0,
+        memory_rows::ignore(bytes, p) == 0,
         texts::NOTHING,
         texts::IGNORES,
     ));
@@ -116,7 +116,7 @@ fn cells<'a>(bytes: &'a [u8; BYTES], words: &'a [u32; WORDS], p: u8) {
 pub fn state(b: Bench, p: u8) {
     answer(
         texts::SUSPENDED,
-        told(keeper_questions::status_code(keeper_questions::status_of(b, p))),
+        told(keeper_answers::status_code(keeper_questions::status_of(b, p))),
     );
     count(texts::USAGE, keeper_questions::usage_count(b, p));
     count(texts::CHILDREN, keeper_questions::child_count(b, p));

@@ -47,12 +47,12 @@ pub fn state(b: Bench, p: u8) {
 // Question k about device p: the answer as a number.
 fn asked(b: Bench, k: usize, p: u8, q: u8) -> u32 {
     match k {
-        0 => show::told(keeper_questions::status_code(keeper_questions::status_of(b, p))),
-        1 => show::told(keeper_questions::number_code(keeper_questions::user_holds(b, p))),
-        2 => show::told(keeper_questions::number_code(keeper_questions::usage_count(b, p))),
-        3 => show::told(keeper_questions::number_code(keeper_questions::child_count(b, p))),
-        4 => show::told(keeper_questions::number_code(keeper_questions::parents_above(b, p))),
-        _ => show::told(keeper_questions::member_code(keeper_questions::in_wake_set(b, p, q))),
+        0 => show::told(keeper_answers::status_code(keeper_questions::status_of(b, p))),
+        1 => show::told(keeper_answers::number_code(keeper_questions::user_holds(b, p))),
+        2 => show::told(keeper_answers::number_code(keeper_questions::usage_count(b, p))),
+        3 => show::told(keeper_answers::number_code(keeper_questions::child_count(b, p))),
+        4 => show::told(keeper_answers::number_code(keeper_questions::parents_above(b, p))),
+        _ => show::told(keeper_answers::member_code(keeper_questions::in_wake_set(b, p, q))),
     }
 }
 

@@ -1,7 +1,7 @@
 -- `export_bench::keeper_ask` meets its contract: each arm's answer is the one at its number in the list. Assumes nothing.
 use mathlib.Core.Path.{ap, _∙_}
 use native.Mathlib.Omega.{arith}
-use Rattle.keeper_questions.specs.Told.{toldCode}
+use Rattle.keeper_answers.specs.Told.{toldCode}
 use Rattle.export_bench.specs.Asked.{answersAbout, askedOf}
 use Rattle.export_bench.proofs.Calling.{Passed, past, last-asked}
 use borrow.Author.Needs.{needs}

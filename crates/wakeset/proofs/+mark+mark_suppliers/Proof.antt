@@ -17,8 +17,8 @@ use Rattle.wakeset.proofs.Marking.{FromParent, AtLink, closed-has, mark
 use Rattle.wakeset.proofs.Marking.{parent-lower, parent-asleep, parent-taken, parent-left, links-past, links-none, supplier-lower, supplier-asleep, link-taken, link-left}
 use Rattle.basics.proofs.row.Reads as row-reads
 use Rattle.basics.proofs.wide.Reads as wide-reads
-use Rattle.memory.proofs.parent.Reads as parent-reads
-use Rattle.memory.proofs.supplier.Reads as supplier-reads
+use Rattle.memory_rows.proofs.parent.Reads as parent-reads
+use Rattle.memory_rows.proofs.supplier.Reads as supplier-reads
 use Rattle.wakeset.proofs.lower.Reads as lower-reads
 use Rattle.wakeset.proofs.on_parent.Reads as on-parent-reads
 use Rattle.wakeset.proofs.on_supplier.Reads as on-supplier-reads

@@ -5,7 +5,7 @@ use borrow.Author.Needs.{needs}
 use borrow.Fn.Kinds.{In}
 use borrow.Fn.PlainCycle.{Measures, is, falls, and}
 use Rattle.wakeset.proofs.Parents.{above-none, above-one}
-use Rattle.memory.proofs.parent.Reads as parent-reads
+use Rattle.memory_rows.proofs.parent.Reads as parent-reads
 use Rattle.wakeset.proofs.parents_above.Reads as reads
 use Rattle.wakeset.proofs.parents_above.Kinds as kinds
 use Rattle.wakeset.proofs.+parents_above.Lts-parents_above as lts
