@@ -1,15 +1,16 @@
 # make run       the program replay, compiled without a proof, on the worked day of examples/day: some seconds
-# make replay    the same program, proved and built
+# make programs  the programs replay, write and list, proved and built, in host/target/release/
 # make scripts   the test programs on their scripts, proved, built and run
 # make test      the gate: every check, ending with the toolchain's verdict
 # make sample    the definitions against the second implementation; SEED and COUNT choose the cases
-# make compare   the proved code against the second implementation; SEED, TABLES, BENCHES, RECORDS, QUESTIONS and FEEDS choose the cases
+# make compare   the proved code against the second implementation; SEED, TABLES, WRITES, BENCHES, RECORDS, QUESTIONS and FEEDS choose the cases
 # make bench     the time of both over one log
 SHELL := /bin/bash
 .SHELLFLAGS := -o pipefail -c
 SEED ?= 1
 COUNT ?= 100
 TABLES ?= 100000
+WRITES ?= 100000
 BENCHES ?= 2000
 RECORDS ?= 30000
 QUESTIONS ?= 600
@@ -20,13 +21,15 @@ export TMPDIR := $(shell tests/scratch)
 # one core for the times, where that can be asked for
 PIN := $(shell command -v taskset > /dev/null && echo taskset -c 0)
 
-.PHONY: run replay scripts test built listed second sample harness compare states feeds replayed bench
+PROGRAMS := replay_program write_program list_program
+
+.PHONY: run programs scripts test built listed second sample harness compare states feeds replayed bench
 
 DAY := examples/day
 
 run:
-	@echo "step 1 of 2: compiling the program; 'make test' proves the same files, 'make replay' builds it proved"
-	@tests/archives $(UNPROVED) replay_program > /dev/null
+	@echo "step 1 of 2: compiling the programs; 'make test' proves the same files, 'make programs' builds them proved"
+	@tests/archives $(UNPROVED) $(PROGRAMS) > /dev/null
 	@cd host && KEEPER_ARCHIVES=$(UNPROVED) cargo build --release --offline --quiet
 	@mkdir -p target/day
 	@echo "step 2 of 2: the log of $(DAY), replayed in pieces of 5 bytes:"
@@ -35,19 +38,20 @@ run:
 	@examples/show $(DAY)/log.bin target/day/replies.bin
 	@cmp target/day/replies.bin $(DAY)/replies.bin && echo "the replies are those of document 01"
 
-# the program, with its exit status. The crates below it are proved two at a time, which `rt staticlib` would not do; each is named as it
-# is proved, and a crate that has not changed is not proved again.
-replay:
-	@echo "step 1 of 3: proving the keeper and the program, crate by crate (some four minutes on two cores)"
-	@rt check replay_log 2>&1 | grep --line-buffered -E '^rt:| error: '
-	@echo "step 2 of 3: building the proved library"
-	@rt staticlib replay_program 2>&1 | grep --line-buffered -E '^rt:| error: '
-	@echo "step 3 of 3: building the program"
+# the programs, with their exit statuses. The crates below them are proved two at a time, which `rt staticlib` would not do; each is named
+# as it is proved, and a crate that has not changed is not proved again.
+programs:
+	@echo "step 1 of 3: proving the keeper and the programs, crate by crate (some six minutes on two cores)"
+	@rt check $(PROGRAMS) 2>&1 | grep --line-buffered -E '^rt:| error: '
+	@echo "step 2 of 3: building the proved libraries"
+	@for p in $(PROGRAMS); do rt staticlib $$p 2>&1 | grep --line-buffered -E '^rt: target| error: ' || exit 1; done
+	@echo "step 3 of 3: building the programs"
 	@cd host && cargo build --release --offline --quiet
 
 scripts:
-	rt check test_tables test_records test_pieces
+	rt check test_tables test_writer test_records test_pieces
 	target/bin/test_tables < crates/test_tables/stdin
+	target/bin/test_writer < crates/test_writer/stdin
 	target/bin/test_records < crates/test_records/stdin
 	target/bin/test_pieces < crates/test_pieces/stdin
 
@@ -59,7 +63,7 @@ test: listed
 	rt ci
 
 built:
-	tests/archives $(UNPROVED) export_cells export_states export_load export_feed export_bench replay_program
+	tests/archives $(UNPROVED) export_cells export_states export_tables export_feed export_bench $(PROGRAMS)
 	cd tests/compare && KEEPER_ARCHIVES=$(UNPROVED) cargo build --release --offline --quiet
 	cd host && KEEPER_ARCHIVES=$(UNPROVED) cargo build --release --offline --quiet
 
@@ -79,7 +83,7 @@ harness:
 	rt check keeper keeper_questions wakeset counts
 	rt staticlib export_cells
 	rt staticlib export_states
-	rt staticlib export_load
+	rt staticlib export_tables
 	rt staticlib export_feed
 	rt staticlib export_bench
 	cd tests/compare && cargo build --release --offline --quiet
@@ -89,9 +93,10 @@ compare:
 	$(MAKE) states
 	$(MAKE) feeds
 
-# tables, benches, single records, questions and methods
+# tables, lists for the writer, benches, single records, questions and methods
 states:
 	tests/compare/target/release/compare tables $(SEED) $(TABLES)
+	tests/compare/target/release/compare writer $(SEED) $(WRITES)
 	tests/compare/target/release/compare benches $(SEED) $(BENCHES)
 	tests/compare/target/release/compare unordered $(SEED) $(BENCHES)
 	tests/compare/target/release/compare records $(SEED) $(RECORDS)
@@ -101,9 +106,13 @@ states:
 feeds:
 	tests/compare/target/release/compare feed $(SEED) $(FEEDS)
 
-# the program on files of every sort; the toolchain's verdict runs the same library as target/bin/replay
+# the programs on files of every sort; the toolchain's verdict runs the same libraries as target/bin/replay, write and list
 replayed:
 	tests/replay/check host/target/release/replay statuses
+	tests/lists/check host/target/release/write host/target/release/list
+	host/target/release/write examples/wiring/list.txt target/wiring.bin
+	cmp target/wiring.bin examples/wiring/table.bin
+	host/target/release/list examples/wiring/table.bin | cmp - examples/wiring/sorted.txt
 
 bench: harness
 	$(PIN) tests/compare/target/release/compare bench

@@ -1,10 +1,12 @@
-//! Links the program: `libreplay_program.a` in `target/staticlib` of the
-//! repository, or in the folder that KEEPER_ARCHIVES names, and the toolchain's
-//! C code for arguments and errno.
+//! Links the programs: their archives in `target/staticlib` of the repository,
+//! or in the folder that KEEPER_ARCHIVES names, and the toolchain's C code for
+//! arguments and errno.
 
 use std::env;
 use std::fs;
 use std::path::{Path, PathBuf};
+
+const PROGRAMS: [&str; 3] = ["replay", "write", "list"];
 
 /// The folder of the toolchain: RATTLE_HOME, or two above the file `rt`.
 fn toolchain() -> PathBuf {
@@ -35,17 +37,18 @@ fn main() {
     println!("cargo:rerun-if-env-changed=KEEPER_ARCHIVES");
     let folder = env::var_os("KEEPER_ARCHIVES")
         .map_or_else(|| package.join("../target/staticlib"), PathBuf::from);
-    take(
-        &folder.join("libreplay_program.a"),
-        &out,
-        "`rt staticlib replay_program` makes it",
-    );
+    for name in PROGRAMS {
+        let hint = format!("`rt staticlib {name}_program` makes it");
+        let archive = format!("lib{name}_program.a");
+        take(&folder.join(&archive), &out, &hint);
+        println!("cargo:rustc-link-arg-bin={name}={}", out.join(archive).display());
+    }
     take(
         &toolchain().join("lib/libos_c.a"),
         &out,
         "it is part of the toolchain",
     );
-    println!("cargo:rustc-link-search=native={}", out.display());
-    println!("cargo:rustc-link-lib=static=replay_program");
-    println!("cargo:rustc-link-lib=static=os_c");
+    for name in PROGRAMS {
+        println!("cargo:rustc-link-arg-bin={name}={}", out.join("libos_c.a").display());
+    }
 }

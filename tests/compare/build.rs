@@ -1,4 +1,4 @@
-//! Links the keeper: the archives of `export_cells`, `export_states`, `export_load`,
+//! Links the keeper: the archives of `export_cells`, `export_states`, `export_tables`,
 //! `export_feed` and `export_bench` in `target/staticlib` of the repository, or in the folder that
 //! KEEPER_ARCHIVES names.
 
@@ -16,7 +16,7 @@ fn main() {
     for name in [
         "export_cells",
         "export_states",
-        "export_load",
+        "export_tables",
         "export_feed",
         "export_bench",
     ] {

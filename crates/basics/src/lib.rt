@@ -36,6 +36,12 @@ pub fn word8(x: u8) -> u32
     x as u32
 }
 
+pub fn word16(x: u16) -> u32
+    ensures { λ r. ⌜ r ≡ x ⌝ }
+{
+    x as u32
+}
+
 pub fn long8(x: u8) -> u64
     ensures { λ r. ⌜ r ≡ x ⌝ }
 {

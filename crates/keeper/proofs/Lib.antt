@@ -1,5 +1,4 @@
 -- What the proofs of the functions cite, and demand 3.
-pub mod Handing
 pub mod Entries
 pub mod Calls
 pub mod Witness

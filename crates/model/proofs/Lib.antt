@@ -21,3 +21,4 @@ pub mod Day
 pub mod Chains
 pub mod Loops
 pub mod Tallies
+pub mod Writing

@@ -1,4 +1,4 @@
--- Document 01 as definitions, in its order.
+-- Document 01 as definitions, in its order; then the requests of document 02.
 pub mod Limits
 pub mod Logic
 pub mod Table
@@ -14,3 +14,4 @@ pub mod Questions
 pub mod Methods
 pub mod Demand3
 pub mod Day
+pub mod Writing

@@ -1,5 +1,5 @@
 // The program's arguments.
-use crate::files;
+use program_files::say;
 use replay_text::size::MOST;
 use replay_text::size::Size;
 
@@ -20,38 +20,22 @@ fn size() -> Size {
     replay_text::size::read(&text[..length])
 }
 
-// Whether argument 3, the file to write, has the name of argument i, a file to read. Names that cannot be read differ: what is wrong
-// with them is said where the file is opened.
-fn written_over(i: usize) -> bool {
-    let mut read = io::buffer();
-    let length = os::arg(i, &mut read);
-    if os::errno() != 0 {
-        return false;
-    }
-    let mut written = io::buffer();
-    let end = os::arg(3, &mut written);
-    if os::errno() != 0 {
-        return false;
-    }
-    check::same(&read[..length], &written[..end])
-}
-
 // Whether REPLIES has the name of TABLE or of LOG, which writing it would empty.
 fn overwrites() -> bool {
-    if written_over(1) {
+    if program_files::same_name(1, 3) {
         return true;
     }
-    written_over(2)
+    program_files::same_name(2, 3)
 }
 
 // The size of the pieces; says what is wrong with the arguments.
 pub fn read() -> Size {
     let Size::Bytes(size) = size() else {
-        files::say(b"usage: replay TABLE LOG REPLIES [PIECE], PIECE from 1 to 4096\n");
+        say(b"usage: replay TABLE LOG REPLIES [PIECE], PIECE from 1 to 4096\n");
         return Size::Wrong;
     };
     if overwrites() {
-        files::say(b"replay: REPLIES has the name of a file to read\n");
+        say(b"replay: REPLIES has the name of a file to read\n");
         return Size::Wrong;
     }
     Size::Bytes(size)

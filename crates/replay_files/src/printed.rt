@@ -1,29 +1,17 @@
 // What is written to standard output.
-use crate::files;
 use keeper_bench::Bench;
 use replay_pieces::lines;
 use replay_pieces::turn::Progress;
 use replay_text::line::Line;
 
-// Writes a line and answers whether it could.
-fn put(fd: i32, line: Line) -> bool {
-    let bytes = line.bytes;
-    let used = files::within(line.used, &bytes);
-    io::write_all(fd, &bytes[..used])
-}
-
 // Writes a line to standard output and answers whether it could, and says so where not.
 pub fn line(line: Line) -> bool {
-    if put(libc::STDOUT_FILENO, line) {
-        return true;
-    }
-    files::complain(b"standard output");
-    false
+    program_files::print(b"replay: ", line)
 }
 
 // Says that the keeper refused a piece.
 pub fn stopped(number: u8) {
-    put(libc::STDERR_FILENO, replay_report::stopped(number));
+    program_files::put(libc::STDERR_FILENO, replay_report::stopped(number));
 }
 
 // The lines of all devices.

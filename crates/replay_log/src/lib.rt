@@ -3,8 +3,8 @@ ghost use mathlib.Core.Path.{_≡_};
 ghost use mathlib.Core.Logic.{_⊎_};
 ghost use Rattle.replay_session.specs.Sessions.{Went};
 use keeper_bench::Bench;
+use program_end::End;
 use replay_files::files;
-use replay_pieces::end::End;
 use replay_pieces::turn::Progress;
 use replay_session::Ends;
 use replay_session::Session;
@@ -62,7 +62,7 @@ fn made<'a>(first: &'a [u8], bench: Bench, log: i32, size: usize, log_path: &'a 
     ensures { λ r. ⌜ Went bench r ⌝ }
 {
     let mut path = io::buffer();
-    let file = files::opened(3, b"REPLIES", &mut path, true);
+    let file = program_files::opened(b"replay: ", 3, b"REPLIES", &mut path, true);
     let out = file.fd;
     let length = file.length;
     if out < 0 {
@@ -81,7 +81,7 @@ fn opened(log: i32, log_path: &[u8], bench: Bench, size: usize) -> Session
     ensures { λ r. ⌜ Went bench r ⌝ }
 {
     let mut bytes = io::buffer();
-    let first = files::fill(log, &mut bytes, size);
+    let first = program_files::fill(log, &mut bytes, size);
     if first.failed {
         files::complain(log_path);
         return failed(bench);
@@ -95,7 +95,7 @@ pub fn named(bench: Bench, size: usize) -> Session
     ensures { λ r. ⌜ Went bench r ⌝ }
 {
     let mut path = io::buffer();
-    let file = files::opened(2, b"LOG", &mut path, false);
+    let file = program_files::opened(b"replay: ", 2, b"LOG", &mut path, false);
     let fd = file.fd;
     let length = file.length;
     if fd < 0 {

@@ -1,4 +1,3 @@
-pub mod Ends
 pub mod Lines
 pub mod Turns
 pub mod Poured

@@ -1,4 +1,3 @@
-// What the program `replay` does with a log, apart from its files: a piece is fed, a state has its lines, and an end its status.
-pub mod end;
+// What the program `replay` does with a log, apart from its files: a piece is fed, and a state has its lines.
 pub mod lines;
 pub mod turn;

@@ -2,8 +2,8 @@
 use mathlib.Core.Path.{_≡_}
 use mathlib.Core.Logic.{_⊎_}
 use Prim.Native.Nat.{ℕ}
-use Rattle.replay_pieces.specs.declared.end.End.{End}
-use Rattle.replay_pieces.specs.declared.end.End.the-variants.{Refused, Failed}
+use Rattle.program_end.specs.declared.End.{End}
+use Rattle.program_end.specs.declared.End.the-variants.{Refused, Failed}
 use Rattle.replay_session.specs.Sessions.{Ran}
 
 -- the end for the number of a table: a refused one is told, where standard output can be written; one that is taken is replayed

@@ -4,11 +4,10 @@ ghost use mathlib.Core.Logic.{_⊎_};
 ghost use Rattle.model.specs.State.{loadOf};
 ghost use Rattle.replay_pieces.specs.Poured.{Replayed};
 ghost use Rattle.replay_program.specs.Ends.{Judged};
+use program_end::End;
+use program_end::status;
 use replay_files::arguments;
-use replay_files::files;
 use replay_files::printed;
-use replay_pieces::end::End;
-use replay_pieces::end::status;
 use replay_pieces::turn::Progress;
 use replay_text::size::Size;
 
@@ -56,7 +55,7 @@ fn replay(table: &[u8], size: usize) -> End
 // longest that is taken has 519, and the tests before the length read the first seven bytes.
 fn begin(size: usize) -> End {
     let mut bytes = io::buffer();
-    let read = files::table(&mut bytes);
+    let read = program_files::first_bytes(b"replay: ", b"TABLE", &mut bytes);
     if read.failed {
         return End::Failed;
     }

@@ -6,9 +6,9 @@ ghost use Rattle.model.specs.Steps.{run, repliesIn};
 ghost use Rattle.keeper_bench.specs.Translate.{stateOf};
 ghost use Rattle.replay_session.specs.Sessions.{FedTo, Stepped, Went};
 use keeper_bench::Bench;
+use program_end::End;
 use replay_files::files;
 use replay_files::printed;
-use replay_pieces::end::End;
 use replay_pieces::turn;
 use replay_pieces::turn::Progress;
 
@@ -93,7 +93,7 @@ fn next<'a>(before: Progress, ends: Ends, log_path: &'a [u8], out_path: &'a [u8]
     ensures { λ r. ⌜ Stepped before r ⌝ }
 {
     let mut bytes = io::buffer();
-    let read = files::fill(ends.log, &mut bytes, ends.size);
+    let read = program_files::fill(ends.log, &mut bytes, ends.size);
     if read.failed {
         files::complain(log_path);
         return ended(before, End::Failed);

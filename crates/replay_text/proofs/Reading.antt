@@ -48,7 +48,7 @@ unfolding sizeAfter allDigits valueAfter _and_ if_then_else_
 size-stop v b t e = rw e
 
 -- ---- a value only grows
-grows : (v : ℕ) (t : List ℕ) → v ≤ valueAfter v t
+pub grows : (v : ℕ) (t : List ℕ) → v ≤ valueAfter v t
 unfolding valueAfter
 grows v [] = omega arith
 grows v (b ∷ t) = let i = grows (10 * v + (b - 48)) t in omega arith

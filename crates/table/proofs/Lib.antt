@@ -1,2 +1,3 @@
--- The laws of the scan.
+-- The laws of the scan, and of the answer.
 pub mod Scanning
+pub mod Handing

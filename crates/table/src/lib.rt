@@ -1,14 +1,15 @@
 // The device table ("part table" of document 01): the answer to any bytes.
 ghost use mathlib.Core.Path.{_≡_};
-ghost use Rattle.model.specs.Table.{markGood, versionGood, limitsGood, lengthGood, parentGood, endsGood, before, deviceGood, linkFits, ascends, entriesAnswer, tableAnswer};
+ghost use Rattle.model.specs.Table.{markGood, versionGood, limitsGood, lengthGood, before, deviceGood, linkFits, ascends, entriesAnswer, tableAnswer};
 ghost use Rattle.table.specs.Answers.{answerOf};
 use basics::wide8;
 use model::DEVICES;
 use model::LINKS;
-use model::NONE;
 use table_entries::byte_at;
 use table_entries::device_byte;
+use table_entries::ends_good;
 use table_entries::link_byte;
+use table_entries::parent_good;
 
 // The answer to a table: taken, or a refusal, in document 01's order. An entry's refusal has its index.
 pub enum Answer {
@@ -54,16 +55,6 @@ pub fn index(answer: Answer) -> u16
     }
 }
 
-// A parent is none, or lower than the device's own number.
-fn parent_good(p: u8, parent: u8) -> bool
-    ensures { λ r. ⌜ r ≡ parentGood p parent ⌝ }
-{
-    if parent == NONE {
-        return true;
-    }
-    parent < p
-}
-
 // The entry of device p keeps the rules.
 fn device_good(t: &[u8], p: u8) -> bool
     ensures { λ r. ⌜ r ≡ deviceGood (now (t .entry)) p ⌝ }
@@ -72,16 +63,6 @@ fn device_good(t: &[u8], p: u8) -> bool
         return false;
     }
     device_byte(t, 1, p) <= 1
-}
-
-// The consumer is one of n devices, and the supplier lower than the consumer.
-fn ends_good(n: u8, consumer: u8, supplier: u8) -> bool
-    ensures { λ r. ⌜ r ≡ endsGood n consumer supplier ⌝ }
-{
-    if n <= consumer {
-        return false;
-    }
-    supplier < consumer
 }
 
 // One link comes strictly before another: by consumer, then by supplier.

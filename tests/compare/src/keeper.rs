@@ -44,12 +44,37 @@ extern "C" {
         replies: *mut u8,
         replies_length: usize,
     ) -> u32;
+    fn keeper_write(
+        devices: *const u8,
+        devices_length: usize,
+        links: *const u8,
+        links_length: usize,
+        out: *mut u8,
+        out_length: usize,
+    ) -> u32;
 }
 
 /// How many bytes and words a bench has, by the keeper.
 pub fn sizes() -> (u32, u32) {
     // SAFETY: the functions only answer.
     unsafe { (keeper_bytes(), keeper_words()) }
+}
+
+/// What writing the table of two lists leaves in a buffer: the number and the index that the lists
+/// are refused with, 0 and 0 where the table is written.
+pub fn write(devices: &[u8], links: &[u8], buffer: &mut [u8]) -> (u32, u32) {
+    // SAFETY: the function reads the two lists, writes the buffer, and nothing else.
+    let code = unsafe {
+        keeper_write(
+            devices.as_ptr(),
+            devices.len(),
+            links.as_ptr(),
+            links.len(),
+            buffer.as_mut_ptr(),
+            buffer.len(),
+        )
+    };
+    (code % 256, code / 256)
 }
 
 /// The keeper's functions. Each reads the arrays and the slices that it is lent, writes those lent

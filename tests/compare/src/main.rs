@@ -1,14 +1,15 @@
 //! Compares the proved keeper with the second implementation.
 //!
 //! `compare tables SEED COUNT` loads random tables with both,
+//! `compare writer SEED COUNT` writes tables from random lists with both,
 //! `compare benches SEED COUNT` asks both about random benches,
 //! `compare records SEED COUNT` gives both random logs, a record at a time, from
 //! so many random benches; `compare feed SEED COUNT` gives them so many logs in
 //! random pieces; `compare questions SEED COUNT` asks every question and calls
 //! every method on so many random benches and on damaged ones; `compare
 //! unordered SEED COUNT` asks for wake sets of damaged memories. It ends with
-//! status 1 at the first difference, and where 200 benches or more leave out an
-//! answer of document 01.
+//! status 1 at the first difference, and where 200 or more benches or lists leave
+//! out an answer of document 01 or of request One.
 //! `compare bench` times both.
 
 mod answers;
@@ -24,6 +25,7 @@ mod speed;
 mod starts;
 mod tables;
 mod unordered;
+mod writer;
 
 use std::process::ExitCode;
 
@@ -36,7 +38,7 @@ fn main() -> ExitCode {
     }
     let Some(outcome) = outcome(&words) else {
         eprintln!(
-            "usage: compare tables|benches|unordered|records|questions|feed SEED COUNT, or compare bench"
+            "usage: compare tables|writer|benches|unordered|records|questions|feed SEED COUNT, or compare bench"
         );
         return ExitCode::from(2);
     };
@@ -65,6 +67,7 @@ fn outcome(words: &[&str]) -> Option<Result<String, String>> {
                 .map(|tally| tally.to_string())
                 .map_err(|difference| difference.to_string()),
         ),
+        "writer" => Some(writer::compare(seed, count)),
         "benches" => Some(benches::compare(seed, count)),
         "unordered" => Some(unordered::compare(seed, count)),
         "records" => Some(records::compare(seed, count)),

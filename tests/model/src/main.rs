@@ -19,6 +19,7 @@ const USES: &[(&str, &[&str])] = &[
     ("Questions", &["told", "climb", "parentsAbove"]),
     ("Methods", &["requested"]),
     ("Demand3", &["effective", "counted"]),
+    ("Writing", &["devicesGiven", "linksGiven", "countsGood", "deviceFits", "linkWhole", "pair", "repeats", "linkTaken", "faultyDevice", "faultyLink", "number", "lower", "least", "inOrder", "fieldOf", "linkByteAt", "sortedLinks", "tableOf", "listsAnswer", "writeOf"]),
 ];
 
 /// How many words a state has.
@@ -114,6 +115,12 @@ fn claim(line: &str) -> String {
             };
             let requested = format!("number = {number}; reply = {}; state = {}", four("code", reply), state(&words[STATE_WORDS + 4..]));
             format!("requested {} ({}) ≡ record {{ {requested} }}", state(&words[1..=STATE_WORDS]), four("value", record))
+        }
+        "write" => {
+            let [devices, links, buffer, number, index, left] = words[1..] else { panic!("two lists") };
+            let (devices, links, buffer) = (list(&bytes(devices)), list(&bytes(links)), list(&bytes(buffer)));
+            let writing = format!("answer = record {{ number = {number}; index = {index} }}; buffer = {}", list(&bytes(left)));
+            format!("writeOf {devices} {links} {buffer} ≡ record {{ {writing} }}")
         }
         other => panic!("no such case: {other}"),
     }

@@ -1,8 +1,8 @@
 //! The bench keeper of document 01 in ordinary Rust, for comparison.
 //!
-//! A [`Bench`] is loaded from a part table and fed pieces of a log. The names
-//! are the kernel's: a part is a *device*, the use count is the *usage count*,
-//! the error is the *runtime error*.
+//! A [`Bench`] is loaded from a part table and fed pieces of a log; [`write()`]
+//! makes a part table. The names are the kernel's: a part is a *device*, the
+//! use count is the *usage count*, the error is the *runtime error*.
 
 mod bench;
 mod count;
@@ -14,6 +14,7 @@ mod set;
 mod sound;
 mod table;
 mod wake;
+mod write;
 
 #[cfg(test)]
 mod tests;
@@ -24,3 +25,4 @@ pub use feed::MAX_PIECE;
 pub use record::{FINISHED, REFUSED};
 pub use set::Set;
 pub use table::{load, Refusal};
+pub use write::write;

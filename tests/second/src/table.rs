@@ -2,21 +2,22 @@
 
 use crate::bench::*;
 
-/// Document 01: what a table is turned away with, refusals 1 to 7.
-/// The bench left is the empty one.
+/// Documents 01 and 02: what a table is turned away with, refusals 1 to 7, and
+/// what the lists for one are, refusals 4 and 6 to 8.
 #[derive(Clone, Copy, Debug, PartialEq, Eq)]
 pub struct Refusal {
-    /// 1 to 7.
+    /// 1 to 8.
     pub number: u8,
-    /// The entry's index in its list; 0 for 1 to 5.
-    pub index: u8,
+    /// The entry's index in its list; 0 for 1 to 5 and 8.
+    pub index: u16,
 }
 
 /// Bytes before the entries.
 const HEADER: usize = 7;
 
 /// Document 01: the part table. Every device loaded is suspended, with disable
-/// depth 1, no holds, no powered children and no error.
+/// depth 1, no holds, no powered children and no error. The bench left by a
+/// refusal is the empty one.
 pub fn load(table: &[u8]) -> Result<Bench, Refusal> {
     if let Some(number) = header_fault(table) {
         return Err(Refusal { number, index: 0 });
@@ -53,7 +54,10 @@ fn header_fault(table: &[u8]) -> Option<u8> {
 fn load_devices(bench: &mut Bench, entries: &[u8]) -> Result<(), Refusal> {
     for (index, entry) in (0u8..).zip(entries.chunks_exact(2)) {
         if !device_entry_good(index, entry[0], entry[1]) {
-            return Err(Refusal { number: 6, index });
+            return Err(Refusal {
+                number: 6,
+                index: index.into(),
+            });
         }
         let device = usize::from(index);
         bench.parent[device] = entry[0];
@@ -71,7 +75,7 @@ pub(crate) fn device_entry_good(device: u8, parent: u8, flags: u8) -> bool {
 /// Link entries: consumer, supplier, flags. The first bad one is refused with 7.
 fn load_links(bench: &mut Bench, entries: &[u8]) -> Result<(), Refusal> {
     let mut before = None;
-    for (index, entry) in (0u8..).zip(entries.chunks_exact(3)) {
+    for (index, entry) in (0u16..).zip(entries.chunks_exact(3)) {
         let pair = (entry[0], entry[1]);
         if !link_entry_good(bench.n, pair, entry[2]) || !ascends(before, pair) {
             return Err(Refusal { number: 7, index });

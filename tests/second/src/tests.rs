@@ -2,6 +2,7 @@
 
 use crate::generate::hosts::{any_host, Session};
 use crate::generate::lines::line;
+use crate::generate::lists;
 use crate::generate::random::Random;
 use crate::generate::tables;
 use crate::generate::tally::Tally;
@@ -69,7 +70,7 @@ fn awake_bench() -> Bench {
     bench
 }
 
-fn refused(table: &[u8], number: u8, index: u8) {
+fn refused(table: &[u8], number: u8, index: u16) {
     assert_eq!(load(table), Err(Refusal { number, index }));
 }
 
@@ -751,6 +752,235 @@ fn table_links_refused() {
     refused(&with(&[[2, 1, 1], [2, 0, 1]]), 7, 1);
     refused(&with(&[[2, 0, 1], [1, 0, 1]]), 7, 1);
     assert!(load(&with(&[[1, 0, 3], [2, 0, 0], [2, 1, 2]])).is_ok());
+}
+
+/// Three devices without a parent.
+const THREE: [u8; 6] = [255, 0, 255, 0, 255, 0];
+
+/// Writes two lists into a buffer with room for any table.
+fn written(devices: &[u8], links: &[[u8; 3]]) -> Vec<u8> {
+    let mut buffer = [0xAA; 1_000];
+    let length = write(devices, &links.concat(), &mut buffer).unwrap();
+    assert_eq!(buffer[length..], [0xAA; 1_000][length..]);
+    buffer[..length].to_vec()
+}
+
+/// Two lists that are refused so, whatever the room: the buffer stays.
+fn lists_refused(devices: &[u8], links: &[u8], number: u8, index: u16) {
+    for room in [0, 7, 1_000] {
+        let mut buffer = vec![0xAA; room];
+        let refusal = Refusal { number, index };
+        assert_eq!(write(devices, links, &mut buffer), Err(refusal));
+        assert_eq!(buffer, vec![0xAA; room]);
+    }
+}
+
+#[test]
+fn day_table_written() {
+    let mut buffer = [0xAA; 16];
+    let length = write(&TABLE[7..13], &TABLE[13..], &mut buffer);
+    assert_eq!((length, buffer), (Ok(16), TABLE));
+}
+
+#[test]
+fn written_links_are_sorted() {
+    let ordered = [[1, 0, 3], [2, 0, 1], [2, 1, 0]];
+    let right = [b"TWB\x01\x00\x03\x03", &THREE[..], &ordered.concat()].concat();
+    for [a, b, c] in [
+        [0, 1, 2],
+        [0, 2, 1],
+        [1, 0, 2],
+        [1, 2, 0],
+        [2, 0, 1],
+        [2, 1, 0],
+    ] {
+        let table = written(&THREE, &[ordered[a], ordered[b], ordered[c]]);
+        assert_eq!(table, right);
+        assert!(load(&table).is_ok());
+    }
+    // By consumer first: 2 comes before 3, although its supplier is higher.
+    let table = written(&[255, 0].repeat(4), &[[3, 0, 1], [2, 1, 1]]);
+    assert_eq!(table[15..], [2, 1, 1, 3, 0, 1]);
+}
+
+#[test]
+fn written_without_links() {
+    assert_eq!(written(&[255, 1], &[]), b"TWB\x01\x00\x01\x00\xFF\x01");
+}
+
+#[test]
+fn list_sizes_at_their_limits() {
+    let devices = [255, 0].repeat(65);
+    let links: Vec<[u8; 3]> = (0..18)
+        .flat_map(|consumer| (0..consumer).map(move |supplier| [consumer, supplier, 1]))
+        .rev()
+        .take(129)
+        .collect();
+    let table = written(&devices[..128], &links[..128]);
+    assert_eq!(table.len(), 519);
+    assert!(load(&table).is_ok_and(|bench| (bench.n, bench.m) == (64, 128)));
+    lists_refused(&devices, &[], 4, 0);
+    lists_refused(&devices[..128], &links.concat(), 4, 0);
+    lists_refused(&[], &[], 4, 0);
+    lists_refused(&[], &[1, 0, 1], 4, 0);
+    // Counts that a byte does not hold.
+    lists_refused(&[255, 0].repeat(257), &[], 4, 0);
+    lists_refused(&devices[..2], &[1, 0, 1].repeat(256), 4, 0);
+}
+
+#[test]
+fn listed_devices_refused() {
+    lists_refused(&[0, 0], &[], 6, 0);
+    lists_refused(&[255, 2], &[], 6, 0);
+    lists_refused(&[255, 0, 1, 0], &[], 6, 1);
+    lists_refused(&[255, 0, 254, 0], &[], 6, 1);
+    lists_refused(&[255, 0, 0, 0, 0, 3, 9, 9], &[], 6, 2);
+}
+
+#[test]
+fn listed_links_refused() {
+    lists_refused(&THREE, &[3, 0, 1], 7, 0);
+    lists_refused(&THREE, &[255, 0, 1], 7, 0);
+    lists_refused(&THREE, &[1, 1, 1], 7, 0);
+    lists_refused(&THREE, &[1, 2, 1], 7, 0);
+    lists_refused(&THREE, &[1, 0, 4], 7, 0);
+    // The index is that of the list given, and not that of its place in order.
+    lists_refused(&THREE, &[2, 1, 1, 2, 0, 1, 1, 0, 4], 7, 2);
+    lists_refused(&THREE, &[2, 1, 1, 0, 0, 1, 1, 0, 4], 7, 1);
+}
+
+#[test]
+fn the_later_copy_is_refused() {
+    for flags in 0..4 {
+        lists_refused(&THREE, &[2, 0, 1, 2, 0, flags], 7, 1);
+        lists_refused(&THREE, &[2, 0, flags, 1, 0, 1, 2, 1, 1, 2, 0, 1], 7, 3);
+    }
+    // The second of three copies.
+    let copies = [[2, 1, 0], [2, 0, 0], [1, 0, 0], [2, 0, 1], [2, 0, 2]];
+    lists_refused(&THREE, &copies.concat(), 7, 3);
+    // The second copy of one pair stands before that of another.
+    let copies = [[2, 0, 1], [1, 0, 1], [1, 0, 1], [2, 0, 1]];
+    lists_refused(&THREE, &copies.concat(), 7, 2);
+    // A copy behind a faulty entry, and a faulty entry behind a copy.
+    lists_refused(&THREE, &[2, 0, 1, 2, 0, 4, 2, 0, 1], 7, 1);
+    lists_refused(&THREE, &[2, 0, 4, 2, 0, 1], 7, 0);
+    lists_refused(&THREE, &[2, 0, 1, 2, 0, 1, 3, 0, 1], 7, 1);
+    // The pair the other way round is another one, and faulty by itself.
+    lists_refused(&THREE, &[2, 1, 1, 1, 2, 1], 7, 1);
+}
+
+#[test]
+fn the_writer_tests_in_order() {
+    let (bad_device, bad_link) = ([0, 0], [0, 0, 0]);
+    lists_refused(&bad_device.repeat(65), &bad_link, 4, 0);
+    lists_refused(&bad_device, &bad_link.repeat(129), 4, 0);
+    lists_refused(&[255, 0, 255, 0, 2, 0], &bad_link, 6, 2);
+    let mut buffer = [];
+    for (devices, links, number) in [
+        (&THREE[..0], &[][..], 4),
+        (&bad_device, &[], 6),
+        (&THREE, &bad_link, 7),
+        (&THREE, &[], 8),
+    ] {
+        let refusal = write(devices, links, &mut buffer).unwrap_err();
+        assert_eq!(refusal, Refusal { number, index: 0 });
+    }
+}
+
+#[test]
+fn room_for_the_table() {
+    for room in 0..20 {
+        let mut buffer = vec![0xAA; room];
+        let answer = write(&TABLE[7..13], &TABLE[13..], &mut buffer);
+        if room < TABLE.len() {
+            let short = Refusal {
+                number: 8,
+                index: 0,
+            };
+            assert_eq!((answer, buffer), (Err(short), vec![0xAA; room]));
+        } else {
+            assert_eq!(answer, Ok(TABLE.len()));
+            assert_eq!(buffer[..16], TABLE);
+            assert_eq!(buffer[16..], [0xAA; 4][..room - 16]);
+        }
+    }
+}
+
+#[test]
+fn an_incomplete_entry_is_faulty() {
+    lists_refused(&[255], &[], 6, 0);
+    lists_refused(&THREE[..5], &[], 6, 2);
+    lists_refused(&THREE, &[1], 7, 0);
+    lists_refused(&THREE, &[1, 0], 7, 0);
+    lists_refused(&THREE, &[2, 1, 1, 2], 7, 1);
+    // Another fault before it comes first, also that of a link after a device.
+    lists_refused(&[255, 2, 255], &[], 6, 0);
+    lists_refused(&THREE[..5], &[3, 0, 1], 6, 2);
+    lists_refused(&THREE, &[2, 2, 1, 2], 7, 0);
+    // It counts for the limits.
+    let (devices, links) = ([255, 0].repeat(64), [1, 0, 1].repeat(128));
+    lists_refused(&[&devices[..], &[255]].concat(), &[], 4, 0);
+    lists_refused(&THREE, &[&links[..], &[1]].concat(), 4, 0);
+    lists_refused(&THREE, &[&links[..], &[1, 0]].concat(), 4, 0);
+    lists_refused(&devices[..127], &[], 6, 63);
+    lists_refused(&THREE, &links[..383], 7, 1);
+}
+
+#[test]
+fn what_is_written_is_loaded() {
+    let (mut random, mut counts) = (Random::new(13), [0; 9]);
+    for _ in 0..5_000 {
+        let lists = lists::any(&mut random);
+        let mut buffer = [0xAA; 600];
+        let length = match write(&lists.devices, &lists.links, &mut buffer) {
+            Ok(length) => length,
+            Err(Refusal { number, .. }) => {
+                counts[usize::from(number)] += 1;
+                assert_eq!(buffer, [0xAA; 600]);
+                continue;
+            }
+        };
+        counts[0] += 1;
+        let bench = load(&buffer[..length]).unwrap();
+        assert!(bench.sound());
+        assert_eq!(buffer[7..7 + lists.devices.len()], lists.devices);
+        let mut links = lists.whole_links();
+        links.sort_unstable();
+        let loaded: Vec<[u8; 3]> = (bench.link_rows())
+            .map(|row| [bench.consumer[row], bench.supplier[row], bench.flags[row]])
+            .collect();
+        assert_eq!(loaded, links);
+        // Again, from the table's own entries and from the list in another order.
+        let again = [
+            lists::Lists::of_table(&buffer[..length]),
+            lists.shuffled(&mut random),
+        ];
+        for lists in again {
+            let mut other = [0xAA; 600];
+            assert_eq!(write(&lists.devices, &lists.links, &mut other), Ok(length));
+            assert_eq!(other, buffer);
+        }
+    }
+    for number in [0, 4, 6, 7] {
+        assert!(counts[number] > 100);
+    }
+}
+
+#[test]
+fn what_is_loaded_is_written() {
+    let mut random = Random::new(17);
+    let mut taken = 0;
+    for _ in 0..5_000 {
+        let table = tables::any(&mut random);
+        let lists = lists::Lists::of_table(&table).shuffled(&mut random);
+        let mut buffer = vec![0xAA; table.len()];
+        let answer = write(&lists.devices, &lists.links, &mut buffer);
+        if load(&table).is_ok() {
+            assert_eq!((answer, buffer), (Ok(table.len()), table));
+            taken += 1;
+        }
+    }
+    assert!(taken > 1_000);
 }
 
 #[test]

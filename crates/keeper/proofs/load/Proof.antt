@@ -2,7 +2,7 @@
 use borrow.Author.Tests.{eq-eqb, ne-eqb}
 use Rattle.model.specs.Logic.{if_then_else_}
 use Rattle.model.specs.State.{loadOf}
-use Rattle.keeper.proofs.Handing.{refused, taken}
+use Rattle.table.proofs.Handing.{refused, taken}
 use borrow.Author.Needs.{needs}
 use Rattle.keeper.proofs.load.Statement.{statement}
 use Rattle.keeper.proofs.load.Tie as tie

@@ -3,7 +3,7 @@ use mathlib.Core.Path.{refl, sym, ap, _∙_}
 use mathlib.Core.Logic.{⊎-elim}
 use borrow.Author.Needs.{needs}
 use Rattle.model.specs.State.{Loaded}
-use Rattle.keeper.proofs.Handing.{refused, taken}
+use Rattle.table.proofs.Handing.{refused, taken}
 use Rattle.replay_session.proofs.Sessions.{ran-done, ran-failed}
 use Rattle.replay_program.proofs.replay.Statement.{statement}
 use Rattle.replay_program.proofs.replay.Tie as tie

@@ -1,8 +1,9 @@
-//! The lines: load, run, from, sound, and those of one call.
+//! The lines: load, run, from, sound, write, and those of one call on a bench.
 
 use super::calls::{ask_line, feed_line, request_line};
 use super::damage::{changed, damaged};
 use super::hosts::{any_host, Host, Session};
+use super::lists;
 use super::random::Random;
 use super::tables;
 use super::tally::Tally;
@@ -10,27 +11,31 @@ use super::text::{hex, state};
 use crate::bench::*;
 use crate::count::counted;
 use crate::table::{load, Refusal};
+use crate::write::write;
 
 /// One random case, complete by itself.
 pub fn line(random: &mut Random, tally: &mut Tally) -> String {
-    match random.below(100) {
+    match random.below(112) {
         0..=17 => load_line(random, tally),
         18..=36 => run_line(random, tally),
         37..=48 => from_line(random, tally),
         49..=58 => sound_line(random, tally),
         59..=77 => feed_line(random, tally),
         78..=88 => ask_line(random, tally),
-        _ => request_line(random, tally),
+        89..=99 => request_line(random, tally),
+        _ => write_line(random, tally),
     }
 }
 
+/// The number and the index of what is not refused.
+const TAKEN: Refusal = Refusal {
+    number: 0,
+    index: 0,
+};
+
 fn load_line(random: &mut Random, tally: &mut Tally) -> String {
     let table = tables::any(random);
-    let taken = Refusal {
-        number: 0,
-        index: 0,
-    };
-    let answer = load(&table).err().unwrap_or(taken);
+    let answer = load(&table).err().unwrap_or(TAKEN);
     tally.add("0 lines", "load".to_string());
     tally.add("6 load", answer.number.to_string());
     format!("load {} {} {}", hex(&table), answer.number, answer.index)
@@ -110,4 +115,31 @@ fn sound_line(random: &mut Random, tally: &mut Tally) -> String {
     tally.add("0 lines", "sound".to_string());
     tally.add("7 sound", answer.to_string());
     format!("sound {} {answer}", state(&bench))
+}
+
+/// Two lists and a buffer: `write DEVICES LINKS BUFFER NUMBER INDEX BUFFER`.
+fn write_line(random: &mut Random, tally: &mut Tally) -> String {
+    let lists = lists::small(random);
+    let length = 7 + lists.devices.len() + lists.links.len();
+    let room = match random.below(10) {
+        0..=2 => length,
+        3..=6 => length + random.from_to(1, 10) as usize,
+        7 | 8 => length - 1,
+        _ => random.below(length as u64) as usize,
+    };
+    let buffer: Vec<u8> = (0..room).map(|_| random.byte()).collect();
+    let mut after = buffer.clone();
+    let written = write(&lists.devices, &lists.links, &mut after);
+    let answer = written.err().unwrap_or(TAKEN);
+    tally.add("0 lines", "write".to_string());
+    tally.add("9 write", answer.number.to_string());
+    format!(
+        "write {} {} {} {} {} {}",
+        hex(&lists.devices),
+        hex(&lists.links),
+        hex(&buffer),
+        answer.number,
+        answer.index,
+        hex(&after)
+    )
 }

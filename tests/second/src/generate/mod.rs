@@ -4,6 +4,7 @@ pub mod calls;
 pub mod damage;
 pub mod hosts;
 pub mod lines;
+pub mod lists;
 pub mod random;
 pub mod tables;
 pub mod tally;

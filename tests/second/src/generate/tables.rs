@@ -67,7 +67,7 @@ pub fn small(random: &mut Random, most: u8) -> Vec<u8> {
 }
 
 /// A good draft of any size: mostly small, sometimes the largest.
-fn any_good(random: &mut Random) -> Draft {
+pub(super) fn any_good(random: &mut Random) -> Draft {
     match random.below(20) {
         0 => Draft::good(random, MAX_DEVICES, 12),
         1 if random.percent(40) => Draft::good(random, 64, 128),
@@ -101,7 +101,7 @@ fn damaged(random: &mut Random) -> Vec<u8> {
     damage(random, table)
 }
 
-fn damage(random: &mut Random, mut table: Vec<u8>) -> Vec<u8> {
+pub(super) fn damage(random: &mut Random, mut table: Vec<u8>) -> Vec<u8> {
     for _ in 0..random.from_to(1, 2) {
         let at = random.below(table.len() as u64) as usize;
         table[at] = match random.below(4) {
@@ -162,7 +162,7 @@ fn wrong_device(random: &mut Random) -> Vec<u8> {
     draft.bytes()
 }
 
-fn spoil_device(random: &mut Random, draft: &mut Draft) {
+pub(super) fn spoil_device(random: &mut Random, draft: &mut Draft) {
     let n = draft.devices.len() as u64;
     let device = random.below(n) as usize;
     match random.below(4) {
@@ -182,7 +182,7 @@ fn wrong_link(random: &mut Random) -> Vec<u8> {
     draft.bytes()
 }
 
-fn spoil_link(random: &mut Random, draft: &mut Draft) {
+pub(super) fn spoil_link(random: &mut Random, draft: &mut Draft) {
     let (n, m) = (draft.devices.len() as u8, draft.links.len());
     if m == 0 {
         return;
@@ -257,7 +257,7 @@ pub fn of_any_size(random: &mut Random) -> Vec<u8> {
 }
 
 /// A good draft of any size; the largest more often than others.
-fn sized(random: &mut Random) -> Draft {
+pub(super) fn sized(random: &mut Random) -> Draft {
     let n = random.from_to(1, u64::from(MAX_DEVICES) + 4) as u8;
     let m = random.below(u64::from(MAX_LINKS) + 9) as usize;
     Draft::good(random, n.min(MAX_DEVICES), m.min(MAX_LINKS.into()))

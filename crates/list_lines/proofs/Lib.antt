@@ -1,0 +1,4 @@
+pub mod Reading
+pub mod Judging
+pub mod Examples
+pub mod Empty

@@ -1,0 +1,5 @@
+pub mod Parents
+pub mod Spaced
+pub mod Numbers
+pub mod Inverse
+pub mod Examples

@@ -1,8 +1,0 @@
--- `replay_files::files::within` meets its contract. Assumes nothing.
-use native.Mathlib.Omega.{arith}
-use Rattle.replay_files.proofs.Counting.{counted}
-use Rattle.replay_files.proofs.files.within.Statement.{statement}
-use Rattle.replay_files.proofs.files.within.Tie as tie
-
-pub within-spec : {M : Type 1} → statement M
-within-spec = tie.close (tie.spec (λ c. counted _ _ (omega arith)) (λ c. counted _ _ (omega arith)))
