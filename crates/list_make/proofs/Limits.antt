@@ -15,7 +15,7 @@ use Rattle.writer_lists.proofs.Answers.{none, many-devices, many-links, over}
 use Rattle.writer.proofs.Laying.{handed-on}
 use Rattle.list_text.specs.Texts.{atFront}
 use Rattle.list_make.specs.declared.Made.{Made}
-use Rattle.list_make.specs.Making.{devicesIn, linksIn, writingIn, madeFrom, Makes}
+use Rattle.list_make.specs.Making.{listedDevices, listedLinks, writingIn, madeFrom, Makes}
 use Rattle.list_make.proofs.Telling.{same-size}
 
 -- ---- too many entries are refused with 4, whatever the other list is
@@ -58,14 +58,14 @@ whole-size devices links buffer e =
 pub makes : (text buffer : List ℕ) (size : ℕ) {a : TableAnswer} {after : List ℕ} {r : Made}
     → record { answer = a; buffer = after } ≡ writingIn text buffer
     → r ≡ madeFrom text a size
-    → (a .number ≡ 0 → size ≡ 7 + length (devicesIn text) + length (linksIn text))
+    → (a .number ≡ 0 → size ≡ 7 + length (listedDevices text) + length (listedLinks text))
     → Makes text buffer r after
 makes text buffer size {a} w e s =
-    let t = length (tableOf (devicesIn text) (linksIn text)) in
+    let t = length (tableOf (listedDevices text) (listedLinks text)) in
     record {
       made =
           e
-          ∙ same-size text a size t (λ z. s z ∙ whole-size (devicesIn text) (linksIn text) buffer (sym (ap (λ (x : Writing). x .answer .number) w) ∙ z))
+          ∙ same-size text a size t (λ z. s z ∙ whole-size (listedDevices text) (listedLinks text) buffer (sym (ap (λ (x : Writing). x .answer .number) w) ∙ z))
           ∙ ap (λ (x : Writing). madeFrom text (x .answer) t) w;
       table = ap (λ (x : Writing). x .buffer) w;
     }

@@ -9,28 +9,28 @@ use Rattle.model.specs.Limits.{DEVICES, LINKS}
 use Rattle.model.specs.Logic.{if_then_else_}
 use Rattle.model.specs.Table.{TableAnswer}
 use Rattle.list_text.specs.declared.Fault.{Fault}
-use Rattle.list_text.specs.Texts.{faultIn, lineOf}
+use Rattle.list_text.specs.Texts.{faultIn, lineNumber}
 use Rattle.list_make.specs.declared.Made.{Made}
 use Rattle.list_make.specs.declared.Made.the-variants.{Written, Refused}
 use Rattle.list_make.specs.Making.{overLine, refusedLine, madeFrom, makesBy, MakesOf}
 
 -- ---- the line of the first entry past a limit: a is that of a device, b that of a link
-module _ (text : List ℕ) {a : ℕ} (device : a ≡ lineOf false text DEVICES) where
-  pub over-link : a ≡ 0 → {b : ℕ} → b ≡ lineOf true text LINKS → b ≡ overLine text
+module _ (text : List ℕ) {a : ℕ} (device : a ≡ lineNumber false text DEVICES) where
+  pub over-link : a ≡ 0 → {b : ℕ} → b ≡ lineNumber true text LINKS → b ≡ overLine text
   unfolding overLine if_then_else_
-  over-link e f = rw (eq-eqb (lineOf false text DEVICES) 0 (sym device ∙ e)) f
+  over-link e f = rw (eq-eqb (lineNumber false text DEVICES) 0 (sym device ∙ e)) f
 
   pub over-device : (a ≡ 0 → ⊥) → a ≡ overLine text
   unfolding overLine if_then_else_
-  over-device n = rw (ne-eqb (lineOf false text DEVICES) 0 (λ e. n (device ∙ e))) device
+  over-device n = rw (ne-eqb (lineNumber false text DEVICES) 0 (λ e. n (device ∙ e))) device
 
 -- ---- the line of a refusal
 module _ (text : List ℕ) (number index : ℕ) {r : ℕ} where
-  pub in-device : number ≡ 6 → r ≡ lineOf false text index → r ≡ refusedLine text number index
+  pub in-device : number ≡ 6 → r ≡ lineNumber false text index → r ≡ refusedLine text number index
   unfolding refusedLine if_then_else_
   in-device e f = rw (eq-eqb number 6 e) f
 
-  pub in-link : number ≡ 7 → r ≡ lineOf true text index → r ≡ refusedLine text number index
+  pub in-link : number ≡ 7 → r ≡ lineNumber true text index → r ≡ refusedLine text number index
   unfolding refusedLine if_then_else_
   in-link e f = rw e f
 

@@ -11,29 +11,29 @@ use Rattle.model.specs.Table.{TableAnswer}
 use Rattle.model.specs.Writing.{tableOf, Writing, writeOf}
 use Rattle.list_text.specs.declared.Fault.{Fault}
 use Rattle.list_text.specs.declared.Fault.the-variants as fault
-use Rattle.list_text.specs.Texts.{gathered, faultIn, lineOf}
+use Rattle.list_text.specs.Texts.{gathered, faultIn, lineNumber}
 use Rattle.list_make.specs.declared.Made.{Made}
 use Rattle.list_make.specs.declared.Made.the-variants.{Written, Large, Wrong, Refused}
 
 -- the devices and the links of a text, as the writer is given them
-abbrev pub devicesIn : List ℕ → List ℕ
-devicesIn text = gathered false text
+abbrev pub listedDevices : List ℕ → List ℕ
+listedDevices text = gathered false text
 
-abbrev pub linksIn : List ℕ → List ℕ
-linksIn text = gathered true text
+abbrev pub listedLinks : List ℕ → List ℕ
+listedLinks text = gathered true text
 
 abbrev pub writingIn : List ℕ → List ℕ → Writing
-writingIn text buffer = writeOf (devicesIn text) (linksIn text) buffer
+writingIn text buffer = writeOf (listedDevices text) (listedLinks text) buffer
 
 -- the line of the first device past the limit, else that of the first link past it; 0 where there is none
 unfoldable pub overLine : List ℕ → ℕ
-overLine text = if eqb (lineOf false text DEVICES) 0 then lineOf true text LINKS else lineOf false text DEVICES
+overLine text = if eqb (lineNumber false text DEVICES) 0 then lineNumber true text LINKS else lineNumber false text DEVICES
 
 -- the line that a refusal stands in: 6 in that of its device, 7 in that of its link
 unfoldable pub refusedLine : List ℕ → ℕ → ℕ → ℕ
 refusedLine text number index =
-    if eqb number 6 then lineOf false text index
-    else if eqb number 7 then lineOf true text index
+    if eqb number 6 then lineNumber false text index
+    else if eqb number 7 then lineNumber true text index
     else overLine text
 
 -- an answer of the writer as it is told, with the size of the table
@@ -44,7 +44,7 @@ madeFrom text a size =
 
 -- a text whose lines are all of a list's: the writer's answer, and its buffer
 pub record Makes (text buffer : List ℕ) (result : Made) (after : List ℕ) : Type 0 where
-  pub made : result ≡ madeFrom text (writingIn text buffer .answer) (length (tableOf (devicesIn text) (linksIn text)))
+  pub made : result ≡ madeFrom text (writingIn text buffer .answer) (length (tableOf (listedDevices text) (listedLinks text)))
   pub table : after ≡ writingIn text buffer .buffer
 
 -- any text: the first line that is none of a list's is told, and then the buffer stays

@@ -14,7 +14,7 @@ use Rattle.list_lines.specs.declared.entries.Entry.{Entry}
 use Rattle.list_lines.specs.declared.entries.Entry.the-variants.{Nothing, Part, Link, Large, Wrong}
 use Rattle.list_lines.proofs.entries.Entry.{the-type}
 use Rattle.list_text.specs.declared.Fault.the-variants as fault
-use Rattle.list_text.specs.Texts.{partBytes, linkBytes, bytesOf, isOf, faultFrom, faultIn, numbersFrom, lineOf}
+use Rattle.list_text.specs.Texts.{partBytes, linkBytes, bytesOf, isOf, faultFrom, faultIn, numbersFrom, lineNumber}
 use Rattle.list_text.specs.Places.{entriesFrom, Read}
 use Rattle.list_text.proofs.Cutting.{all-left, none-left}
 use Rattle.list_text.proofs.Gathering.{none-bytes}
@@ -88,10 +88,10 @@ module _ {text : List ℕ} {start number : ℕ} (f : Faulting text start number)
 -- ---- the line of entry k of a sort, with entries ahead of it that are still to be passed
 pub record Looking (link : Bool) (text : List ℕ) (k ahead start number : ℕ) : Type 0 where
   pub counted : Counted text start number
-  pub rest : getD (numbersFrom link number (entriesFrom start text)) ahead 0 ≡ lineOf link text k
+  pub rest : getD (numbersFrom link number (entriesFrom start text)) ahead 0 ≡ lineNumber link text k
 
 pub looking-start : (link : Bool) (text : List ℕ) (k : ℕ) → Looking link text k k 0 1
-unfolding lineOf
+unfolding lineNumber
 looking-start link text k = record { counted = counted-start text; rest = rw (all-left text) }
 
 module _ {link : Bool} {text : List ℕ} {k ahead start number : ℕ} (l : Looking link text k ahead start number) where
@@ -109,10 +109,10 @@ module _ {link : Bool} {text : List ℕ} {k ahead start number : ℕ} (l : Looki
         record { counted = counted-more (l .counted) r; rest = rw (add-one number) (rw (r .first, h, n) at (l .rest)) }
 
     -- the entry
-    pub looking-here : isOf link e ≡ true → ahead ≡ 0 → number ≡ lineOf link text k
+    pub looking-here : isOf link e ≡ true → ahead ≡ 0 → number ≡ lineNumber link text k
     unfolding numbersFrom if_then_else_
     looking-here h z = rw (r .first, h, z) at (l .rest)
 
-  pub looking-none : length text < start → 0 ≡ lineOf link text k
+  pub looking-none : length text < start → 0 ≡ lineNumber link text k
   unfolding numbersFrom
   looking-none h = rw (none-left start text h) at (l .rest)

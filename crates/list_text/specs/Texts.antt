@@ -91,5 +91,5 @@ numbersFrom link n [] = []
 numbersFrom link n (entry ∷ entries) = if isOf link entry then n ∷ numbersFrom link (suc n) entries else numbersFrom link (suc n) entries
 
 -- the line of entry k of a sort, from 0; 0 where there are not so many
-unfoldable pub lineOf : Bool → List ℕ → ℕ → ℕ
-lineOf link text k = getD (numbersFrom link 1 (entriesOf text)) k 0
+unfoldable pub lineNumber : Bool → List ℕ → ℕ → ℕ
+lineNumber link text k = getD (numbersFrom link 1 (entriesOf text)) k 0

@@ -2,7 +2,7 @@
 ghost use mathlib.Core.Path.{_≡_};
 ghost use Prim.Native.Nat.{_+_, _≤_, _<_};
 ghost use lib.ListN.{length, set};
-ghost use Rattle.list_text.specs.Texts.{isOf, faultIn, Gathered, lineOf};
+ghost use Rattle.list_text.specs.Texts.{isOf, faultIn, Gathered, lineNumber};
 ghost use Rattle.list_text.specs.Places.{Stopped, Read, Stored};
 use list_lines::entries::Entry;
 
@@ -148,7 +148,7 @@ fn is_of(link: bool, entry: Entry) -> bool
 
 // The line of entry k of a sort, 0 where there is none.
 pub fn line_of(text: &[u8], link: bool, k: usize) -> usize
-    ensures { λ r. ⌜ r ≡ lineOf link (now (text .entry)) k ⌝ }
+    ensures { λ r. ⌜ r ≡ lineNumber link (now (text .entry)) k ⌝ }
 {
     let mut ahead = k;
     let mut start: usize = 0;

@@ -19,7 +19,7 @@ use Rattle.list_text.specs.declared.Fault.the-variants as fault
 use Rattle.list_text.specs.Texts.{faultIn}
 use Rattle.list_make.specs.declared.Made.{Made}
 use Rattle.list_make.specs.declared.Made.the-variants.{Written, Large, Wrong, Refused}
-use Rattle.list_make.specs.Making.{devicesIn, linksIn, writingIn, madeFrom, Makes, makesBy, MakesOf}
+use Rattle.list_make.specs.Making.{listedDevices, listedLinks, writingIn, madeFrom, Makes, makesBy, MakesOf}
 use Rattle.list_make.proofs.Telling.{table-told}
 use Rattle.write_program.specs.Ends.{Good, MadeFor}
 
@@ -47,14 +47,14 @@ refusal-no-table text a size n = rw (ne-eqb (a .number) 0 n)
 pub record Found (text buffer new : List ℕ) (s : ℕ) : Type 0 where
   pub lines : faultIn text ≡ fault.Nothing
   pub number : writingIn text buffer .answer .number ≡ 0
-  pub size : s ≡ length (tableOf (devicesIn text) (linksIn text))
+  pub size : s ≡ length (tableOf (listedDevices text) (listedLinks text))
   pub after : new ≡ writingIn text buffer .buffer
 
 module _ (text buffer : List ℕ) {made : Made} {after : List ℕ} (size : ℕ) (e : made ≡ Written size) where
   from-makes : faultIn text ≡ fault.Nothing → Makes text buffer made after → Found text buffer after size
   from-makes l m =
       let a = writingIn text buffer .answer in
-      let t = length (tableOf (devicesIn text) (linksIn text)) in
+      let t = length (tableOf (listedDevices text) (listedLinks text)) in
       elim (ℕ-discrete (a .number) 0) [
         | yes z ↦ record { lines = l; number = z; size = ap sizeOf (sym e ∙ m .made ∙ sym (table-told text a t z)); after = m .table }
         | no n ↦ no-table e (ap isTable (m .made) ∙ refusal-no-table text a t n)
@@ -71,10 +71,10 @@ module _ (text buffer : List ℕ) {made : Made} {after : List ℕ} (size : ℕ) 
 -- ---- it stands at the front of the buffer
 module _ {text buffer after : List ℕ} {size : ℕ} (f : Found text buffer after size) where
   abbrev table : List ℕ
-  table = tableOf (devicesIn text) (linksIn text)
+  table = tableOf (listedDevices text) (listedLinks text)
 
-  given : Given (devicesIn text) (linksIn text) × (length table ≤ length buffer)
-  given = writes-given (devicesIn text) (linksIn text) buffer (f .number)
+  given : Given (listedDevices text) (listedLinks text) × (length table ≤ length buffer)
+  given = writes-given (listedDevices text) (listedLinks text) buffer (f .number)
 
   pub good : Good text
   good = record { lines = f .lines; lists = ap (λ (a : TableAnswer). a .number) (given-good (given .0)) }
@@ -101,11 +101,11 @@ made-for text buffer m =
 
 -- ---- and a good text becomes one, where the buffer has room for the longest table
 pub becomes : (text buffer : List ℕ) {made : Made} {after : List ℕ} → 7 + 2 * DEVICES + 3 * LINKS ≤ length buffer → Good text → MakesOf text buffer made after
-    → made ≡ Written (length (tableOf (devicesIn text) (linksIn text)))
+    → made ≡ Written (length (tableOf (listedDevices text) (listedLinks text)))
 becomes text buffer {made} {after} room g m =
-    let h = good-given (devicesIn text) (linksIn text) (g .lists) in
-    let t = tableOf (devicesIn text) (linksIn text) in
-    let long = table-long (devicesIn text) (linksIn text) in
+    let h = good-given (listedDevices text) (listedLinks text) (g .lists) in
+    let t = tableOf (listedDevices text) (listedLinks text) in
+    let long = table-long (listedDevices text) (listedLinks text) in
     let few = limits h in
     let whole = devices-whole h in
     let w = given-writes h buffer (omega arith) in

@@ -11,7 +11,7 @@ use Rattle.replay_text.specs.declared.line.Line.{Line}
 use Rattle.replay_text.specs.Line.{lineOf}
 use Rattle.list_text.specs.declared.Fault.the-variants as fault
 use Rattle.list_text.specs.Texts.{faultIn}
-use Rattle.list_make.specs.Making.{devicesIn, linksIn}
+use Rattle.list_make.specs.Making.{listedDevices, listedLinks}
 use Rattle.list_make.specs.declared.Made.{Made}
 use Rattle.list_make.specs.declared.Made.the-variants.{Written, Large, Wrong, Refused}
 use Rattle.list_make.specs.declared.Refusal.{Refusal}
@@ -22,12 +22,12 @@ use Rattle.program_end.specs.declared.End.the-variants as end
 -- a text whose lines are all of a list's, with lists that are good
 pub record Good (text : List ℕ) : Type 0 where
   pub lines : faultIn text ≡ fault.Nothing
-  pub lists : listsAnswer (devicesIn text) (linksIn text) .number ≡ 0
+  pub lists : listsAnswer (listedDevices text) (listedLinks text) .number ≡ 0
 
 -- the bytes are the table of a good text
 pub record TableFor (text table : List ℕ) : Type 0 where
   pub whole : Good text
-  pub is : table ≡ tableOf (devicesIn text) (linksIn text)
+  pub is : table ≡ tableOf (listedDevices text) (listedLinks text)
 
 -- the line of a refusal, with the line of the list where there is one
 unfoldable pub refusalLine : Refusal → Line

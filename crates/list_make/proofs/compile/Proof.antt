@@ -4,7 +4,7 @@ use mathlib.Core.Path.{_≡_, sym, _∙_, ap}
 use native.Mathlib.Omega.{arith}
 use lib.ListN.{length, take}
 use Rattle.model.specs.Limits.{DEVICES, LINKS}
-use Rattle.list_make.specs.Making.{devicesIn, linksIn}
+use Rattle.list_make.specs.Making.{listedDevices, listedLinks}
 use Rattle.list_make.proofs.Limits.{long-devices, long-links, all-there, makes, given-same}
 use borrow.Author.Needs.{needs}
 use Rattle.list_make.proofs.compile.Statement.{statement}
@@ -25,7 +25,7 @@ returns c =
     let a = begun (first l) .args in
     let n = first l .gather .ensures .bytes in
     let many = c .before .if1 .taken in
-    makes (a .text .now) (a .table .now) 0 (long-devices (devicesIn (a .text .now)) (linksIn (a .text .now)) (a .table .now) (omega arith)) (c .told .ensures) (λ z. absurd (omega arith))
+    makes (a .text .now) (a .table .now) 0 (long-devices (listedDevices (a .text .now)) (listedLinks (a .text .now)) (a .table .now) (omega arith)) (c .told .ensures) (λ z. absurd (omega arith))
 
 -- too many links
 returns-2 : tie.Need-returns-2
@@ -35,16 +35,16 @@ returns-2 c =
     let a = begun (first l) .args in
     let m = l .before .gather2 .ensures .bytes in
     let many = c .before .if2 .taken in
-    makes (a .text .now) (a .table .now) 0 (long-links (devicesIn (a .text .now)) (linksIn (a .text .now)) (a .table .now) (omega arith)) (c .told2 .ensures) (λ z. absurd (omega arith))
+    makes (a .text .now) (a .table .now) 0 (long-links (listedDevices (a .text .now)) (listedLinks (a .text .now)) (a .table .now) (omega arith)) (c .told2 .ensures) (λ z. absurd (omega arith))
 
 -- where there are not, what was gathered is whole
-devices : (c : tie.Else2) → let g = first (c .before .before) in take (g .gather .result) (g .gather .last .1 .1 .0) ≡ devicesIn (begun g .args .text .now)
+devices : (c : tie.Else2) → let g = first (c .before .before) in take (g .gather .result) (g .gather .last .1 .1 .0) ≡ listedDevices (begun g .args .text .now)
 devices c =
     let g = first (c .before .before) .gather in
     all-there _ _ (g .ensures .bytes) (g .ensures .buffer) (let l = c .before .if1 .left in omega arith)
 
 links : (c : tie.Else2) → let l = c .before .before in
-    take (l .before .gather2 .result) (l .before .gather2 .last .1 .1 .0) ≡ linksIn (begun (first l) .args .text .now)
+    take (l .before .gather2 .result) (l .before .gather2 .last .1 .1 .0) ≡ listedLinks (begun (first l) .args .text .now)
 links c =
     let g = c .before .before .before .gather2 in
     all-there _ _ (g .ensures .bytes) (g .ensures .buffer) (let l = c .if2 .left in omega arith)
