@@ -67,9 +67,10 @@ built:
 	cd tests/compare && KEEPER_ARCHIVES=$(UNPROVED) cargo build --release --offline --quiet
 	cd host && KEEPER_ARCHIVES=$(UNPROVED) cargo build --release --offline --quiet
 
-# every folder of crates/ stands in crates.txt
+# every folder of crates/ stands in crates.txt, and every must-fail edit finds its text
 listed:
 	@for d in crates/*/; do n=$$(basename "$$d"); grep -q "^$$n:" crates.txt || { echo "crates/$$n is not listed in crates.txt"; exit 1; }; done
+	@tests/edits
 
 # the second implementation's own tests
 second:
