@@ -2,7 +2,7 @@
 ghost use mathlib.Core.Path.{_≡_};
 ghost use Rattle.memory.specs.Layout.{BYTES, WORDS, stateIn};
 ghost use Rattle.request_answer.specs.Promises.{replyOf};
-ghost use Rattle.wakeset.specs.Marks.{Above};
+ghost use Rattle.parents.specs.Parents.{Above};
 ghost use Rattle.model.specs.SoundTest.{soundTest};
 ghost use Rattle.export_states.specs.Exported.{packed, WakeSetIs, LowestIs, StatusSet, StepIs};
 use basics::word8;
@@ -27,7 +27,7 @@ pub extern "C" fn keeper_words() -> u32
     WORDS as u32
 }
 
-// The marks of the wake set of device t.
+// The marks of the wake set of device t, by the sweep.
 #[no_mangle]
 pub extern "C" fn keeper_wake_set<'a>(
     bytes: &'a [u8; BYTES],
@@ -39,6 +39,20 @@ pub extern "C" fn keeper_wake_set<'a>(
 {
     let first = links::index(bytes, words);
     *out = wakeset::wake_set(bytes, &first, t);
+}
+
+// The same by the recursion.
+#[no_mangle]
+pub extern "C" fn keeper_wake_recursion<'a>(
+    bytes: &'a [u8; BYTES],
+    words: &'a [u32; WORDS],
+    t: u8,
+    out: &mut [bool; ROWS],
+)
+    ensures { λ _. ⌜ WakeSetIs (now (bytes .entry)) (now (words .entry)) t (now (out .exit)) ⌝ }
+{
+    let first = links::index(bytes, words);
+    *out = wakeset_recursion::wake_set(bytes, &first, t);
 }
 
 // The lowest member of the wake set of device t; n where it has none.
@@ -55,7 +69,7 @@ pub extern "C" fn keeper_lowest<'a>(bytes: &'a [u8; BYTES], words: &'a [u32; WOR
 pub extern "C" fn keeper_parents_above<'a>(bytes: &'a [u8; BYTES], p: u8) -> u8
     ensures { λ r. ⌜ Above (now (bytes .entry)) p r ⌝ }
 {
-    wakeset::parents_above(bytes, p)
+    parents::parents_above(bytes, p)
 }
 
 // The status of device p becomes v, and the counts follow.

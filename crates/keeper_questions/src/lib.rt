@@ -22,7 +22,7 @@ use memory_rows::children;
 use memory_rows::holds;
 use memory_rows::linked;
 use memory_rows::status;
-use request_suspend::usage;
+use suspend_test::usage;
 
 // A use count as it is told: on a sound bench it is below 2^32.
 fn number64(x: u64) -> u32
@@ -120,5 +120,5 @@ pub fn parents_above(b: Bench, device: u8) -> NumberAnswer
     ensures { λ r. ⌜ numberTold r ≡ tellAbove (stateOf b) device ⌝ }
 {
     let check = about(b, device);
-    tell_number(check, word8(wakeset::parents_above(&b.bytes, device)))
+    tell_number(check, word8(parents::parents_above(&b.bytes, device)))
 }

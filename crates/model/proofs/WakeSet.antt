@@ -193,7 +193,7 @@ in-falls : {w : Wiring} {status : List ℕ} {t q : ℕ} → Ordered w → t < w 
 in-falls r ht (self s) = here s
 in-falls r ht (next i d s) = down-to (in-falls r ht i) d (down r (member-below r ht i) d) s
 
-falls-in : {w : Wiring} {status : List ℕ} {t q : ℕ} → Falls w status t q → InWake w status t q
+pub falls-in : {w : Wiring} {status : List ℕ} {t q : ℕ} → Falls w status t q → InWake w status t q
 falls-in (here s) = self s
 falls-in (down-to i d l s) = next (falls-in i) d s
 

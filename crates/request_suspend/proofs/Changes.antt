@@ -1,19 +1,25 @@
--- A chain of tests as one code, and a suspend callback's result as three changes of the state, whatever the states are. Assumes nothing.
-use Rattle.model.specs.Limits.{EAGAIN, minus}
-use Rattle.model.specs.Logic.{if_then_else_}
-use mathlib.Core.Path.{_≡_, refl, _∙_}
+-- A chain of tests as one code, kind 6 as a put and what follows, and a suspend callback's result as three changes of the state. Assumes nothing.
+use mathlib.Core.Path.{_≡_, refl, _∙_, ap}
 use mathlib.Core.Bool.{Bool, true, false, not}
+use mathlib.Core.List.{List}
 use Prim.Native.Nat.{ℕ, _<_, _≤_}
 use native.Mathlib.Omega.{arith}
 use native.Mathlib.Decide.{decLt}
 use lib.Dec.{ltb, eqb}
-use borrow.Author.Tests.{lt-ltb, le-ltb}
+use borrow.Author.Tests.{lt-ltb, le-ltb, eq-eqb, ne-eqb}
+use Rattle.model.specs.Limits.{EAGAIN, minus}
+use Rattle.model.specs.Logic.{if_then_else_}
 use Rattle.model.specs.State.{State, SUSPENDED, ACTIVE, statusAt, withStatus, withCallback, withError}
 use Rattle.model.specs.Records.{Done, finished, ask}
-use Rattle.model.specs.Requests.{suspendTest, idle, askSuspend, suspend}
+use Rattle.model.specs.Requests.{suspendTest, idle, put, putIdle, askSuspend, suspend}
 use Rattle.model.specs.Steps.{suspendResult}
-use Rattle.request_answer.specs.Promises.{magnitude}
+use Rattle.memory.specs.Layout.{stateIn}
+use Rattle.memory.proofs.Readiness.{stays-full}
+use Rattle.request_answer.specs.declared.Reply.{Reply}
+use Rattle.request_answer.specs.Promises.{Leads, magnitude}
+use Rattle.request_hold.proofs.Chained.{held-stop, held-go, put-stays}
 use Rattle.request_suspend.specs.Parts.{passing, settled}
+use Rattle.request_suspend.specs.Sleeps.{Rests, LetsSleep}
 
 -- ---- two tests as one code: the first that is not 0 stops, and with none the request goes on
 module _ (stop : ℕ → Done) (on : Done) (t d : ℕ) {code : ℕ} (chosen : code ≡ (if ltb 0 t then t else d)) where
@@ -33,44 +39,99 @@ module _ (stop : ℕ → Done) (on : Done) (t d : ℕ) {code : ℕ} (chosen : co
         | no g ↦ let e = rw (le-ltb 0 t (omega arith)) at chosen in rw (le-ltb 0 t (omega arith), le-ltb 0 d (rw e at l))
       ]
 
--- kind 7 so: t is the suspend test's code, d the status's
-module _ (s : State) (p : ℕ) {code t d : ℕ} (test : t ≡ suspendTest s p) (status : d ≡ (if eqb (statusAt s p) ACTIVE then 0 else minus EAGAIN))
-    (chosen : code ≡ (if ltb 0 t then t else d)) where
+-- kinds 7 and 8 so: the suspend test's code, then what the kind asks of the status
+abbrev awake : State → ℕ → Bool
+awake s p = eqb (statusAt s p) ACTIVE
+
+abbrev asleep : State → ℕ → Bool
+asleep s p = eqb (statusAt s p) SUSPENDED
+
+abbrev needsAwake : Bool → ℕ
+needsAwake a = if a then 0 else minus EAGAIN
+
+abbrev refusesAsleep : Bool → ℕ
+refusesAsleep a = if a then 1 else 0
+
+unfoldable pub restCode : State → ℕ → Bool → ℕ
+restCode s p suspends =
+    if ltb 0 (suspendTest s p) then suspendTest s p
+    else if suspends then refusesAsleep (asleep s p)
+    else needsAwake (awake s p)
+
+module _ (s : State) (p : ℕ) where
+  pub code-of : {code t d a b : ℕ} (suspends : Bool) → t ≡ suspendTest s p → a ≡ needsAwake (awake s p) → b ≡ refusesAsleep (asleep s p)
+      → d ≡ (if suspends then b else a) → code ≡ (if ltb 0 t then t else d) → code ≡ restCode s p suspends
+  unfolding restCode
+  code-of suspends test waking sleeping asked chosen = rw (chosen, test, asked, waking, sleeping)
+
   abbrev asksIdle : Done
   asksIdle = ask (withCallback s 3 p p) 3 p
 
-  idle-form : idle s p ≡ (if ltb 0 t then finished s p t else if ltb 0 d then finished s p d else asksIdle)
+  -- the tests as a chain
+  abbrev chain : ℕ → Done → Done
+  chain d on = if ltb 0 (suspendTest s p) then finished s p (suspendTest s p) else if ltb 0 d then finished s p d else on
+
+  idle-form : idle s p ≡ chain (needsAwake (awake s p)) asksIdle
   unfolding idle if_then_else_
-  idle-form = rw (test, status) (go (eqb (statusAt s p) ACTIVE))
+  idle-form = go (awake s p)
     where
       go : (a : Bool) → (if ltb 0 (suspendTest s p) then finished s p (suspendTest s p) else if not a then finished s p (minus EAGAIN) else asksIdle)
-          ≡ (let d = if a then 0 else minus EAGAIN in if ltb 0 (suspendTest s p) then finished s p (suspendTest s p) else if ltb 0 d then finished s p d else asksIdle)
+          ≡ chain (needsAwake a) asksIdle
       go true = refl
       go false = refl
 
-  pub idle-stops : 0 < code → idle s p ≡ finished s p code
-  idle-stops l = idle-form ∙ stops (λ x. finished s p x) asksIdle t d chosen l
-
-  pub idle-asks : code ≤ 0 → idle s p ≡ asksIdle
-  idle-asks l = idle-form ∙ goes (λ x. finished s p x) asksIdle t d chosen l
-
--- kind 8 so
-module _ (s : State) (p : ℕ) {code t d : ℕ} (test : t ≡ suspendTest s p) (status : d ≡ (if eqb (statusAt s p) SUSPENDED then 1 else 0))
-    (chosen : code ≡ (if ltb 0 t then t else d)) where
-  suspend-form : suspend s p ≡ (if ltb 0 t then finished s p t else if ltb 0 d then finished s p d else askSuspend s p)
+  suspend-form : suspend s p ≡ chain (refusesAsleep (asleep s p)) (askSuspend s p)
   unfolding suspend if_then_else_
-  suspend-form = rw (test, status) (go (eqb (statusAt s p) SUSPENDED))
+  suspend-form = go (asleep s p)
     where
       go : (a : Bool) → (if ltb 0 (suspendTest s p) then finished s p (suspendTest s p) else if a then finished s p 1 else askSuspend s p)
-          ≡ (let d = if a then 1 else 0 in if ltb 0 (suspendTest s p) then finished s p (suspendTest s p) else if ltb 0 d then finished s p d else askSuspend s p)
+          ≡ chain (refusesAsleep a) (askSuspend s p)
       go true = refl
       go false = refl
 
-  pub suspend-stops : 0 < code → suspend s p ≡ finished s p code
-  suspend-stops l = suspend-form ∙ stops (λ x. finished s p x) (askSuspend s p) t d chosen l
+  module _ {code : ℕ} {suspends : Bool} (is : code ≡ restCode s p suspends) where
+    abbrev of : {b : Bool} → suspends ≡ b → code ≡ restCode s p b
+    of e = is ∙ ap (restCode s p) e
 
-  pub suspend-asks : code ≤ 0 → suspend s p ≡ askSuspend s p
-  suspend-asks l = suspend-form ∙ goes (λ x. finished s p x) (askSuspend s p) t d chosen l
+    pub idle-stops : suspends ≡ false → 0 < code → idle s p ≡ finished s p code
+    unfolding restCode if_then_else_
+    idle-stops e l = idle-form ∙ stops (λ x. finished s p x) asksIdle (suspendTest s p) (needsAwake (awake s p)) (of e) l
+
+    pub idle-asks : suspends ≡ false → code ≤ 0 → idle s p ≡ asksIdle
+    unfolding restCode if_then_else_
+    idle-asks e l = idle-form ∙ goes (λ x. finished s p x) asksIdle (suspendTest s p) (needsAwake (awake s p)) (of e) l
+
+    pub suspend-stops : suspends ≡ true → 0 < code → suspend s p ≡ finished s p code
+    unfolding restCode if_then_else_
+    suspend-stops e l = suspend-form ∙ stops (λ x. finished s p x) (askSuspend s p) (suspendTest s p) (refusesAsleep (asleep s p)) (of e) l
+
+    pub suspend-asks : suspends ≡ true → code ≤ 0 → suspend s p ≡ askSuspend s p
+    unfolding restCode if_then_else_
+    suspend-asks e l = suspend-form ∙ goes (λ x. finished s p x) (askSuspend s p) (suspendTest s p) (refusesAsleep (asleep s p)) (of e) l
+
+-- ---- kinds 6, 7 and 8
+-- a put of -75 ends kind 6
+pub put-stops : (s u : State) (p : ℕ) {code : ℕ} → put s p ≡ finished u p code → (code ≡ 0 → ⊥) → putIdle s p ≡ finished u p code
+unfolding put putIdle
+put-stops s u p e ne = held-stop _ _ _ _ _ (λ s. idle s p) _ e ne
+
+-- after any other it is an idle
+pub put-goes : (bytes₀ words₀ words₁ : List ℕ) {bytes words : List ℕ} {p code : ℕ} {r : Reply}
+    → put (stateIn bytes₀ words₀) p ≡ finished (stateIn bytes₀ words₁) p code → code ≡ 0
+    → Leads idle bytes₀ words₁ p bytes words r → Leads putIdle bytes₀ words₀ p bytes words r
+unfolding put putIdle
+put-goes bytes₀ words₀ words₁ {p = p} e z on =
+    let start = stateIn bytes₀ words₀ in
+    record { is = λ h. held-go _ _ _ _ _ (λ s. idle s p) _ e z ∙ on .is (stays-full bytes₀ words₀ bytes₀ words₁ (put-stays start _ _ _ e) h) }
+
+module _ {kind p : ℕ} {first bytes₀ words₀ bytes words : List ℕ} {r : Reply} where
+  -- the promise of the one path, by its kind
+  pub as-put : kind ≡ 6 → Leads putIdle bytes₀ words₀ p bytes words r → LetsSleep kind first bytes₀ words₀ p bytes words r
+  as-put e on = record { putting = λ f. on; suspending = λ f. absurd (omega (arith, e, f)); idling = λ n m. absurd (n e) }
+
+  pub as-other : (kind ≡ 6 → ⊥) → Rests (eqb kind 8) first bytes₀ words₀ p bytes words r → LetsSleep kind first bytes₀ words₀ p bytes words r
+  as-other n on =
+      record { putting = λ e. absurd (n e); suspending = λ e. on .suspending (eq-eqb _ _ e); idling = λ n m. on .idling (ne-eqb _ _ m) }
 
 -- ---- a suspend callback's result
 module _ (s : State) (p v : ℕ) {a b : State} {z : ℕ} (set : a ≡ withStatus s p z) (close : b ≡ withCallback a 0 0 0) (status : z ≡ settled v) where

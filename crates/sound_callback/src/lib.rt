@@ -18,7 +18,7 @@ use memory_rows::status;
 use model::ACTIVE;
 use model::RESUMING;
 use model::SUSPENDING;
-use request_suspend::suspend_test;
+use suspend_test::suspend_test;
 
 // ---- the carried bytes
 

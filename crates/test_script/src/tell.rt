@@ -4,6 +4,7 @@ use crate::show;
 use crate::show::pick;
 use crate::texts;
 use crate::texts::say;
+use basics::both;
 use basics::long8;
 use basics::long16;
 use keeper_bench::Bench;
@@ -52,8 +53,24 @@ fn asked(b: Bench, k: usize, p: u8, q: u8) -> u32 {
         2 => show::told(keeper_answers::number_code(keeper_questions::usage_count(b, p))),
         3 => show::told(keeper_answers::number_code(keeper_questions::child_count(b, p))),
         4 => show::told(keeper_answers::number_code(keeper_questions::parents_above(b, p))),
-        _ => show::told(keeper_answers::member_code(keeper_questions::in_wake_set(b, p, q))),
+        _ => wakes_with(b, p, q),
     }
+}
+
+// Whether the recursion has another word on q than the answer, 0 or 1; a refused question has none.
+fn recursion_differs(b: Bench, p: u8, q: u8, told: u32) -> bool {
+    let first = links::index(&b.bytes, &b.words);
+    let marks = wakeset_recursion::wake_set(&b.bytes, &first, p);
+    let marked = marks[q as usize];
+    both(told < 2, marked != (told == 1))
+}
+
+// Whether q is in the wake set of p, by the question; the recursion is asked beside it.
+fn wakes_with(b: Bench, p: u8, q: u8) -> u32 {
+    let told = show::told(keeper_answers::member_code(keeper_questions::in_wake_set(b, p, q)));
+    let other = recursion_differs(b, p, q, told);
+    say(pick(other, texts::OTHER_WAY, texts::NOTHING));
+    told
 }
 
 // A question.

@@ -12,7 +12,7 @@ pub fn say(k: usize) {
             k % 32,
         ),
         2 => nth(
-            b": device \n; device \n usage\n children\n holds\n depth \n error \n error -\n ignores children\n, open\n of \n for \n:\n refused \n \n none\n suspend\n resume\n idle\n suspended\n resuming\n active\n suspending\n no\n yes",
+            b": device \n; device \n usage\n children\n holds\n depth \n error \n error -\n ignores children\n, open\n of \n for \n:\n refused \n \n none\n suspend\n resume\n idle\n suspended\n resuming\n active\n suspending\n no\n yes\n RECURSION DIFFERS",
             k % 32,
         ),
         _ => nth(b"0\n1\n2\n3\n4\n5\n6\n7\n8\n9\nA\nB\nC\nD\nE\nF", k % 32),
@@ -117,6 +117,8 @@ pub const CALLBACK: usize = 79;
 pub const SUSPENDED: usize = 83;
 
 pub const NO: usize = 87;
+
+pub const OTHER_WAY: usize = 89;
 
 // Hexadecimal digits.
 pub const DIGIT: usize = 96;

@@ -1,4 +1,5 @@
-pub mod Marking
+pub mod Resting
+pub mod Adding
+pub mod Sweeping
 pub mod Members
-pub mod Parents
 pub mod Scans

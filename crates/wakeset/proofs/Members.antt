@@ -3,7 +3,7 @@
 use mathlib.Core.Path.{_≡_, refl, sym, _∙_}
 use mathlib.Core.Bool.{Bool, true, false}
 use mathlib.Core.List.{List}
-use mathlib.Core.Logic.{⊎-elim}
+use mathlib.Core.Logic.{_↔_}
 use Prim.Native.Nat.{ℕ, _<_, _≤_}
 use native.Mathlib.Omega.{arith}
 use native.Mathlib.Decide.{decLt}
@@ -12,16 +12,18 @@ use lib.Seq.{ext-getD}
 use Rattle.model.specs.Limits.{ROWS, NONE}
 use Rattle.model.specs.Logic.{_and_, any, first}
 use Rattle.model.specs.State.{State, ACTIVE, statusAt}
-use Rattle.model.specs.WakeSet.{here, marked, wakeMarks, inWake, lowest}
+use Rattle.model.specs.WakeSet.{Falls, here, down-to, On, marked, wakeMarks, inWake, lowest}
 use Rattle.model.specs.Requests.{barred, othersBarred}
 use Rattle.model.specs.Sound.{Ordered}
 use Rattle.model.proofs.Basics.{never, any-find, any-of, first-passes, first-least, first-low, first-at, first-none, few-devices}
 use Rattle.model.proofs.Logic.{tests}
-use Rattle.model.proofs.WakeSet.{none-on, marks-long, falls-iff, falls-within, powered-empty, wake-iff}
+use Rattle.model.proofs.WakeSet.{none-on, marks-long, falls-iff, falls-within, falls-in, powered-empty, wake-iff}
 use Rattle.memory.specs.Layout.{stateIn}
 use Rattle.links.specs.Firsts.{Listed}
 use Rattle.wakeset.proofs.Scans.{off}
-use Rattle.wakeset.specs.Marks.{fallsFrom, Joined, Markable, Marks, IsWakeSet, IsLowest, HeardFrom, Reaches}
+use Rattle.wakeset.specs.Marks.{IsWakeSet, IsLowest, HeardFrom, Reaches}
+use Rattle.wakeset.specs.Sweep.{Swept, Sweeps}
+use Rattle.wakeset.proofs.Resting.{needs-follows}
 
 alike : (a b : Bool) → (a ≡ true → b ≡ true) → (b ≡ true → a ≡ true) → a ≡ b
 alike true b f g = sym (f refl)
@@ -29,39 +31,52 @@ alike false true f g = g refl
 alike false false f g = refl
 
 -- ---- the marks
--- the set joined to no marks is the wake set's marks
-marks-are : (s : State) (t : ℕ) (ms : List Bool) → Ordered (s .wiring) → t < s .wiring .n → length ms ≡ ROWS →
-    Joined (fallsFrom t s) (replicate ROWS false) ms → ms ≡ wakeMarks (s .wiring) (s .devices .status) t
-marks-are s t ms r l long j =
+-- the marks of the members that are reached by falling numbers are the model's
+pub marks-are : (s : State) (t : ℕ) (ms : List Bool) → Ordered (s .wiring) → t < s .wiring .n → length ms ≡ ROWS →
+    ((q : ℕ) → On ms q ↔ Falls (s .wiring) (s .devices .status) t q) → ms ≡ wakeMarks (s .wiring) (s .devices .status) t
+marks-are s t ms r l long iff =
     let w = s .wiring in
     let status = s .devices .status in
     let few : w .n ≤ NONE = (let z = few-devices (r .devices) in omega arith) in
     ext-getD false ms (wakeMarks w status t) (long ∙ sym (marks-long w status t few l))
-    (λ q b. alike (getD ms q false) (getD (wakeMarks w status t) q false)
-    (λ e. falls-iff w status t few l q .1 (⊎-elim (λ o. absurd (none-on ROWS q o)) (λ f. f) (j .only q e)))
-    (λ e. j .has q (falls-iff w status t few l q .0 e)))
+    (λ q b. alike (getD ms q false) (getD (wakeMarks w status t) q false) (λ e. falls-iff w status t few l q .1 (iff q .0 e))
+    (λ e. iff q .1 (falls-iff w status t few l q .0 e)))
 
-pub wake-marks : {bytes first : List ℕ} {t : ℕ} {ms : List Bool} {low₀ low : ℕ} →
-    Marks (fallsFrom t) bytes first t (replicate ROWS false) ms low₀ low → IsWakeSet bytes first t ms
-wake-marks {bytes} {first} {t} m =
+-- a powered device has none
+pub powered-marks : {bytes first : List ℕ} {t : ℕ} → ((words : List ℕ) → ACTIVE ≤ statusAt (stateIn bytes words) t) → IsWakeSet bytes first t (replicate ROWS false)
+powered-marks {bytes} {first} {t} z =
     record {
-      only = λ words q o. ⊎-elim (λ x. absurd (none-on ROWS q x)) (λ x. x) (m .only words q o);
-      is = λ words h l. marks-are (stateIn bytes words) t _ (h .order) l (m .long ∙ length-replicate ROWS false) (m .is words (unmarked (stateIn bytes words) h));
+      only = λ words q o. absurd (none-on ROWS q o);
+      is =
+          λ words h l.
+          marks-are (stateIn bytes words) t _ (h .order) l (length-replicate ROWS false)
+          (λ q. (λ o. absurd (none-on ROWS q o), λ f. absurd (powered-empty (z words) (falls-in f))));
+    }
+
+-- where the sweep has passed every device, the marks are the wake set's
+swept-marks : {bytes first : List ℕ} {t low : ℕ} {ms : List Bool} → ((words : List ℕ) → Swept (stateIn bytes words) first t 0 ms low) → IsWakeSet bytes first t ms
+swept-marks {bytes} {first} {t} {ms = ms} u =
+    record {
+      only = λ words q o. u words .asleep q o;
+      is = λ words h l. marks-are (stateIn bytes words) t ms (h .order) l (u words .long) (λ q. (u words .reached h q, go words h l));
     }
   where
-    unmarked : (s : State) → Listed (s .wiring) first → Markable s first (replicate ROWS false)
-    unmarked s h = record { listed = h; long = length-replicate ROWS false; closed = λ p q o. absurd (none-on ROWS p o) }
+    go : (words : List ℕ) → Listed (stateIn bytes words .wiring) first → t < stateIn bytes words .wiring .n →
+        {q : ℕ} → Falls (stateIn bytes words .wiring) (stateIn bytes words .devices .status) t q → On ms q
+    go words h l (here z) = u words .top
+    go words h l (down-to {p = p} {q = q} i d b z) =
+        let few = few-devices (h .order .devices) in
+        let low = falls-within i in
+        u words .rests p q (omega arith) (go words h l i) (needs-follows h p (omega arith) q d b z)
 
--- from t down, the lowest number is the first mark below t, or t
-pub lowest-mark : {P : State → ℕ → Type 0} {bytes first-links : List ℕ} {t low : ℕ} {ms : List Bool} →
-    Marks P bytes first-links t (replicate ROWS false) ms t low → low ≡ first (marked ms) t
-lowest-mark {t = t} {low = low} {ms = ms} m =
-    let h = m .lowers (length-replicate ROWS false) in
-    let u = h .within in
-    let least : (j : ℕ) → marked ms j ≡ true → low ≤ j = λ j o. ⊎-elim (λ x. absurd (none-on ROWS j x)) (λ x. x) (h .least j o) in
-    let none : (j : ℕ) → j < low → marked ms j ≡ false = λ j b. off _ (λ o. let k = least j o in omega arith) in
+-- the lowest mark is the first below t, or t
+lowest-mark : {s : State} {first-links : List ℕ} {t k low : ℕ} {ms : List Bool} → Swept s first-links t k ms low → low ≡ first (marked ms) t
+lowest-mark {t = t} {low = low} {ms = ms} u =
+    let h = u .lowest in
+    let w = h .least t (u .top) in
+    let none : (j : ℕ) → j < low → marked ms j ≡ false = λ j b. off _ (λ o. let k = h .least j o in omega arith) in
     elim (decLt low t) [
-      | yes k ↦ sym (first-at (marked ms) t low none k (h .on k))
+      | yes k ↦ sym (first-at (marked ms) t low none k (h .on))
       | no k ↦ let e : low ≡ t = omega arith in e ∙ sym (first-none (marked ms) t (rw e at none))
     ]
 
@@ -127,31 +142,31 @@ module _ {bytes first-links : List ℕ} {t : ℕ} where
         is = λ words h l. n words ∙ lowest-none _ (h .order) l (z words);
       }
 
-  pub lowest-asleep : {r : ℕ} {ms : List Bool} → ((words : List ℕ) → statusAt (stateIn bytes words) t < ACTIVE) →
-      IsWakeSet bytes first-links t ms → r ≡ first (marked ms) t → IsLowest bytes first-links t r
-  lowest-asleep {r} {ms} z m e =
-      record {
-        powered = λ words y. let k = z words in absurd (omega arith);
-        asleep =
-            λ words y.
-            let low = first-low (marked ms) t in
-            elim (decLt (first (marked ms) t) t) [
-              | yes b ↦ rw e (m .only words _ (first-passes (marked ms) t b))
-              | no g ↦ let k : r ≡ t = omega arith in rw k (record { asleep = y; within = omega arith })
-            ];
-        is = λ words h l. e ∙ lowest-first _ (h .order) l (m .is words h l) (z words);
-      }
+  -- t sleeps: the marks after a sweep from none
+  module _ {ms : List Bool} {r : ℕ} (z : (words : List ℕ) → statusAt (stateIn bytes words) t < ACTIVE) (u : Sweeps bytes first-links t (replicate ROWS false) ms r) where
+    swept : (words : List ℕ) → Swept (stateIn bytes words) first-links t 0 ms r
+    swept words = u .is words refl (z words)
+
+    pub wake-marks : IsWakeSet bytes first-links t ms
+    wake-marks = swept-marks swept
+
+    pub lowest-asleep : IsLowest bytes first-links t r
+    lowest-asleep =
+        record {
+          powered = λ words y. let k = z words in absurd (omega arith);
+          asleep = λ words y. swept words .asleep r (swept words .lowest .on);
+          is = λ words h l. lowest-mark (swept words) ∙ lowest-first _ (h .order) l (wake-marks .is words h l) (z words);
+        }
+
+    pub reaches-asleep : {words : List ℕ} {b : Bool} → HeardFrom bytes words ms r t b → Reaches bytes words first-links t (record { low = r; barred = b })
+    reaches-asleep {words} h =
+        let low = swept words .lowest in
+        record {
+          low = lowest-asleep;
+          free = λ y. let k = z words in absurd (omega arith);
+          barred = λ y l. h .is (low .least t (swept words .top)) (λ q k. off _ (λ o. let j = low .least q o in omega arith)) ∙ others-below _ (y .order) l (wake-marks .is words y l);
+        }
 
   pub reaches-powered : {words : List ℕ} {r : ℕ} → ((words : List ℕ) → r ≡ stateIn bytes words .wiring .n) → ((words : List ℕ) → ACTIVE ≤ statusAt (stateIn bytes words) t) →
       Reaches bytes words first-links t (record { low = r; barred = false })
   reaches-powered {words} n z = record { low = lowest-powered n z; free = λ y. refl; barred = λ h l. others-none _ (h .order) l (z words) }
-
-  pub reaches-asleep : {words : List ℕ} {r : ℕ} {b : Bool} {ms : List Bool} → ((words : List ℕ) → statusAt (stateIn bytes words) t < ACTIVE) → IsWakeSet bytes first-links t ms →
-      r ≡ first (marked ms) t → HeardFrom bytes words ms r t b → Reaches bytes words first-links t (record { low = r; barred = b })
-  reaches-asleep {words} {ms = ms} z m e h =
-      let clear : (q : ℕ) → q < first (marked ms) t → marked ms q ≡ false = λ q k. off _ (λ o. let j = first-least (marked ms) t q o in omega arith) in
-      record {
-        low = lowest-asleep z m e;
-        free = λ y. let k = z words in absurd (omega arith);
-        barred = λ y l. (rw e at (h .is)) (first-low (marked ms) t) clear ∙ others-below _ (y .order) l (m .is words y l);
-      }

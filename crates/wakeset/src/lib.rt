@@ -1,13 +1,13 @@
-// The wake set of a device, its lowest member and whether another member is barred, and how many parents stand above a device.
+// The wake set of a device in one sweep down the device numbers, its lowest member, and whether another member is barred.
 ghost use mathlib.Core.Path.{_≡_};
 ghost use mathlib.Core.List.{List};
-ghost use Prim.Native.Nat.{ℕ, _<_};
-ghost use lib.Dec.{ltb};
-ghost use Rattle.model.specs.Logic.{if_then_else_};
-ghost use Rattle.model.specs.State.{ACTIVE, statusAt};
+ghost use Prim.Native.Nat.{ℕ};
+ghost use lib.ListN.{length};
+ghost use Rattle.model.specs.Limits.{ROWS};
 ghost use Rattle.model.specs.Requests.{barred};
 ghost use Rattle.memory.specs.Layout.{stateIn};
-ghost use Rattle.wakeset.specs.Marks.{sleepingParent, sleepingSupplier, fallsFrom, linksFrom, Marks, IsWakeSet, HeardFrom, IsLowest, Reaches, Above};
+ghost use Rattle.wakeset.specs.Marks.{sleepingParent, sleepingSupplier, IsWakeSet, HeardFrom, IsLowest, Reaches};
+ghost use Rattle.wakeset.specs.Sweep.{Chosen, Adds, Passes, Steps, Sweeps};
 use basics::both;
 use basics::either;
 use basics::row;
@@ -24,7 +24,6 @@ use memory_rows::parent;
 use memory_rows::status;
 use memory_rows::supplier;
 use model::ACTIVE;
-use model::LINKS;
 use model::ROWS;
 
 // The lowest member of a wake set, n where it has none, and whether a member other than the target is barred.
@@ -33,10 +32,10 @@ pub struct Reach {
     pub barred: bool,
 }
 
-// ---- marking
+// ---- what a device rests on
 
 // Device p rests on its parent, which counts its children, and the parent sleeps. A parent's number is lower.
-fn on_parent<'a>(bytes: &'a [u8; BYTES], p: u8) -> bool
+pub fn on_parent<'a>(bytes: &'a [u8; BYTES], p: u8) -> bool
     ensures { λ r. ⌜ ((words : List ℕ) → r ≡ sleepingParent (stateIn (now (bytes .entry)) words) p) ⌝ }
 {
     let q = parent(bytes, p);
@@ -45,7 +44,7 @@ fn on_parent<'a>(bytes: &'a [u8; BYTES], p: u8) -> bool
 }
 
 // Link i, of device p, is a runtime link, and its supplier sleeps. A supplier's number is lower.
-fn on_supplier<'a>(bytes: &'a [u8; BYTES], p: u8, i: usize) -> bool
+pub fn on_supplier<'a>(bytes: &'a [u8; BYTES], p: u8, i: usize) -> bool
     ensures { λ r. ⌜ ((words : List ℕ) → r ≡ sleepingSupplier (stateIn (now (bytes .entry)) words) p i) ⌝ }
 {
     let q = supplier(bytes, i);
@@ -53,65 +52,78 @@ fn on_supplier<'a>(bytes: &'a [u8; BYTES], p: u8, i: usize) -> bool
     both(runtime, status(bytes, q) < ACTIVE)
 }
 
-// The lower of two numbers.
-fn lower(a: u8, b: u8) -> u8
-    ensures { λ r. ⌜ r ≡ (if ltb b a then b else a) ⌝ }
+// ---- the sweep
+
+// Marks device q where the test holds. The answer is the lowest mark, where low was.
+fn mark(marks: &mut [bool; ROWS], low: u8, on: bool, q: u8) -> u8
+    ensures { λ r. ⌜ (length (now (marks .entry)) ≡ ROWS → Adds (Chosen on q) (now (marks .entry)) low (now (marks .exit)) r) ⌝ }
 {
-    if b < a { b } else { a }
+    let at = row(q);
+    let had = marks[at];
+    marks[at] = either(on, had);
+    if both(on, q < low) { q } else { low }
 }
 
-// Marks the sleeping device p, and in turn the sleeping devices that it rests on. A device is marked after what it rests on, so a marked
-// device has all of its set marked. The answer is the lowest number of low and the new marks.
-fn mark<'a>(
+// Passes the marked device p: marks the sleeping devices that it rests on, its parent and the suppliers of its own links. Each of these
+// links is looked at once. They end where those of the next device begin.
+fn pass<'a>(
     bytes: &'a [u8; BYTES],
     first: &'a [u16; FIRSTS],
     p: u8,
     marks: &mut [bool; ROWS],
     low: u8,
 ) -> u8
-    requires { ⌜ ((words : List ℕ) → statusAt (stateIn (now bytes) words) p < ACTIVE) ⌝ }
-    ensures { λ r. ⌜ Marks (fallsFrom p) (now (bytes .entry)) (now (first .entry)) p (now (marks .entry)) (now (marks .exit)) low r ⌝ }
+    ensures { λ r. ⌜ Passes (now (bytes .entry)) (now (first .entry)) p (now (marks .entry)) low (now (marks .exit)) r ⌝ }
 {
+    let mut least = mark(marks, low, on_parent(bytes, p), parent(bytes, p));
     let at = row(p);
-    if marks[at] {
-        return low;
+    let mut i = wide(first[at]);
+    let end = wide(first[at + 1]);
+    while i < end {
+        least = mark(marks, least, on_supplier(bytes, p, i), supplier(bytes, i));
+        i += 1;
     }
-    let mut least = low;
-    if on_parent(bytes, p) {
-        least = mark(bytes, first, parent(bytes, p), marks, low);
-    }
-    least = mark_suppliers(bytes, first, p, wide(first[at]), marks, least);
-    marks[at] = true;
-    lower(least, p)
+    least
 }
 
-// Marks the suppliers of p by its links from k on, and what they rest on. The links of p end where those of the next device begin.
-// The answer is the lowest number of low and the new marks.
-fn mark_suppliers<'a>(
+// One step of the sweep: device q is passed where it is marked. The sweep ends at the lowest mark, before this step and after it.
+fn step<'a>(
     bytes: &'a [u8; BYTES],
     first: &'a [u16; FIRSTS],
-    p: u8,
-    k: usize,
+    q: u8,
     marks: &mut [bool; ROWS],
-    low: u8,
+    end: u8,
 ) -> u8
-    ensures { λ r. ⌜ Marks (linksFrom (now (first .entry)) p k) (now (bytes .entry)) (now (first .entry)) p (now (marks .entry)) (now (marks .exit)) low r ⌝ }
+    ensures { λ r. ⌜ Steps (now (bytes .entry)) (now (first .entry)) q (now (marks .entry)) end (now (marks .exit)) r ⌝ }
 {
-    if LINKS <= k {
-        return low;
+    if !marks[row(q)] {
+        return end;
     }
-    let next = row(p) + 1;
-    if wide(first[next]) <= k {
-        return low;
-    }
-    let mut least = low;
-    if on_supplier(bytes, p, k) {
-        least = mark(bytes, first, supplier(bytes, k), marks, low);
-    }
-    mark_suppliers(bytes, first, p, k + 1, marks, least)
+    pass(bytes, first, q, marks, end)
 }
 
-// The marks of the wake set of device t. A powered device's wake set is empty. The lowest number is not asked for.
+// From no mark to those of the wake set of device t, which sleeps. After each step the marked devices among those passed, from q up, are
+// exactly the wake set's (`each-step` in its proof): what a device rests on has a lower number, so all that lead to q are passed before it.
+// Below the lowest mark there is none, so there the sweep ends. The answer is that mark.
+fn sweep<'a>(
+    bytes: &'a [u8; BYTES],
+    first: &'a [u16; FIRSTS],
+    t: u8,
+    marks: &mut [bool; ROWS],
+) -> u8
+    ensures { λ r. ⌜ Sweeps (now (bytes .entry)) (now (first .entry)) t (now (marks .entry)) (now (marks .exit)) r ⌝ }
+{
+    marks[row(t)] = true;
+    let mut low = pass(bytes, first, t, marks, t);
+    let mut q = t;
+    while low < q {
+        q -= 1;
+        low = step(bytes, first, q, marks, low);
+    }
+    low
+}
+
+// The marks of the wake set of device t. A powered device's wake set is empty.
 pub fn wake_set<'a>(bytes: &'a [u8; BYTES], first: &'a [u16; FIRSTS], t: u8) -> [bool; ROWS]
     ensures { λ r. ⌜ IsWakeSet (now (bytes .entry)) (now (first .entry)) t r ⌝ }
 {
@@ -119,7 +131,7 @@ pub fn wake_set<'a>(bytes: &'a [u8; BYTES], first: &'a [u16; FIRSTS], t: u8) -> 
     if ACTIVE <= status(bytes, t) {
         return marks;
     }
-    mark(bytes, first, t, &mut marks, t);
+    sweep(bytes, first, t, &mut marks);
     marks
 }
 
@@ -159,7 +171,7 @@ pub fn lowest_member<'a>(bytes: &'a [u8; BYTES], first: &'a [u16; FIRSTS], t: u8
         return devices(bytes);
     }
     let mut marks = [false; ROWS];
-    mark(bytes, first, t, &mut marks, t)
+    sweep(bytes, first, t, &mut marks)
 }
 
 // The lowest member of the wake set of device t, and whether another member is barred.
@@ -178,23 +190,10 @@ pub fn reached<'a>(
         };
     }
     let mut marks = [false; ROWS];
-    let low = mark(bytes, first, t, &mut marks, t);
+    let low = sweep(bytes, first, t, &mut marks);
     let barred = any_barred(bytes, words, &marks, low, t);
     Reach {
         low: low,
         barred: barred,
     }
-}
-
-// ---- parents
-
-// How many parents stand above device p. A parent's number is lower.
-pub fn parents_above<'a>(bytes: &'a [u8; BYTES], p: u8) -> u8
-    ensures { λ r. ⌜ Above (now (bytes .entry)) p r ⌝ }
-{
-    let q = parent(bytes, p);
-    if p <= q {
-        return 0;
-    }
-    parents_above(bytes, q) + 1
 }

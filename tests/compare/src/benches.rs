@@ -106,10 +106,14 @@ pub fn damaged_cell(random: &mut Random, memory: &Memory) -> Memory {
 pub fn same(bench: &Bench, device: u8) -> Result<u64, String> {
     let memory = Memory::from(bench);
     let right = bench.wake_set(device.into());
-    let members = listed(&memory.wake_set(device));
     let expected: Vec<usize> = right.devices().collect();
+    let members = listed(&memory.wake_set(device));
     if members != expected {
         return Err(format!("wake set {members:?}, not {expected:?}"));
+    }
+    let recursion = listed(&memory.wake_recursion(device));
+    if recursion != expected {
+        return Err(format!("wake set by recursion {recursion:?}, not {expected:?}"));
     }
     let lowest = memory.lowest(device);
     let expected = right.lowest().unwrap_or(bench.n.into());

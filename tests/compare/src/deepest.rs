@@ -1,4 +1,4 @@
-//! The deepest wakes, on the stack that the keeper may take.
+//! The deepest wakes and the widest, on the stack that the keeper may take.
 
 use crate::benches;
 use crate::feed;
@@ -8,20 +8,25 @@ use std::thread::Builder;
 
 /// The stack that the keeper may take.
 const STACK: usize = 256 << 10;
-/// The last device of a chain; its wake set has all of them.
+/// The last device; its wake set has all of them.
 const LAST: u8 = 63;
 
-/// Finds the wake set of the last device of each chain and wakes it, on a small
+/// Finds the wake set of the last device of each table and wakes it, on a small
 /// stack; says what goes wrong.
 pub fn compare() -> Result<(), String> {
-    for (name, table) in [("parents", parents()), ("links", links())] {
-        chain(&table).map_err(|what| format!("the deepest chain of {name}: {what}"))?;
+    let cases = [
+        ("the deepest chain of parents", parents()),
+        ("the deepest chain of links", links()),
+        ("the widest fan of links", fan()),
+    ];
+    for (name, table) in cases {
+        on_a_small_stack(&table).map_err(|what| format!("{name}: {what}"))?;
     }
     Ok(())
 }
 
 /// 64 devices in one chain of parents, with 128 runtime links down the chain.
-fn parents() -> Vec<u8> {
+pub fn parents() -> Vec<u8> {
     let mut table = b"TWB\x01\x00\x40\x80\xff\x00".to_vec();
     table.extend((1..=LAST).flat_map(|p| [p - 1, 0]));
     let steps = |p: u8| {
@@ -41,8 +46,16 @@ fn links() -> Vec<u8> {
     table
 }
 
-/// One chain, on a thread of its own.
-fn chain(table: &[u8]) -> Result<(), String> {
+/// 64 devices without parents: the last two are each supplied by all before it that links are left for.
+pub fn fan() -> Vec<u8> {
+    let mut table = b"TWB\x01\x00\x40\x7d".to_vec();
+    table.extend([255, 0].repeat(64));
+    table.extend((LAST - 1..=LAST).flat_map(|c| (0..c).flat_map(move |s| [c, s, 1])));
+    table
+}
+
+/// One table, on a thread of its own.
+fn on_a_small_stack(table: &[u8]) -> Result<(), String> {
     let bench = second::load(table).map_err(|refusal| format!("refused {}", refusal.number))?;
     let woken = Builder::new()
         .stack_size(STACK)

@@ -23,6 +23,7 @@ extern "C" {
     fn keeper_cell(bytes: &Bytes, words: &Words, field: u8, row: u16) -> u32;
     fn keeper_set_cell(bytes: &mut Bytes, words: &mut Words, field: u8, row: u16, value: u32);
     fn keeper_wake_set(bytes: &Bytes, words: &Words, t: u8, out: &mut Marks);
+    fn keeper_wake_recursion(bytes: &Bytes, words: &Words, t: u8, out: &mut Marks);
     fn keeper_lowest(bytes: &Bytes, words: &Words, t: u8) -> u8;
     fn keeper_parents_above(bytes: &Bytes, p: u8) -> u8;
     fn keeper_set_status(bytes: &mut Bytes, words: &mut Words, p: u8, v: u8);
@@ -98,6 +99,14 @@ impl Memory {
         let mut marks = [true; DEVICE_ROWS];
         // SAFETY: see above.
         unsafe { keeper_wake_set(&self.bytes, &self.words, device, &mut marks) };
+        marks
+    }
+
+    /// The same by the recursion.
+    pub fn wake_recursion(&self, device: u8) -> Marks {
+        let mut marks = [true; DEVICE_ROWS];
+        // SAFETY: see above.
+        unsafe { keeper_wake_recursion(&self.bytes, &self.words, device, &mut marks) };
         marks
     }
 

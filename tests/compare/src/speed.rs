@@ -1,5 +1,7 @@
-//! How fast the keeper is beside the second implementation: one log, given to both in turn.
+//! How fast the keeper is beside the second implementation: one log, given to both in turn; and two
+//! logs that wake the largest wake sets over and over.
 
+use crate::deepest;
 use crate::keeper::Memory;
 use second::generate::hosts::write;
 use second::generate::random::Random;
@@ -15,29 +17,72 @@ const SEED: u64 = 1;
 const RECORDS: usize = 100_000;
 /// How often each keeper is given the log.
 const RUNS: usize = 101;
+/// How often the last device of a worst case is woken.
+const ROUNDS: usize = 50;
 
 /// Times both keepers: the lines to print, or how they differ.
 pub fn compare() -> Result<String, String> {
     let (bench, log) = log();
-    let memory = Memory::from(&bench);
+    let (ours, second) = both(&bench, &log, RUNS)?;
+    let (chain, fan) = (worst(&deepest::parents())?, worst(&deepest::fan())?);
+    Ok(format!(
+        "bench: {RECORDS} records, {} devices, {} links, pieces of {MAX_PIECE} bytes, {RUNS} runs each\n\
+         keeper: {ours}\nsecond: {second}\nthe deepest chain, {chain}\nthe widest fan, {fan}\n\
+         ratio of medians {:.2}\nratio {:.2}",
+        bench.n,
+        bench.m,
+        ours.median / second.median,
+        ours.best / second.best
+    ))
+}
+
+/// The times of both keepers over a log, in so many runs each, or how they differ.
+fn both(bench: &Bench, log: &[u8], runs: usize) -> Result<(Times, Times), String> {
+    let memory = Memory::from(bench);
     let (mut right, mut replies) = (Vec::<u8>::new(), Vec::<u8>::new());
-    give(&bench, Bench::feed, &log, |piece| right.extend(piece))?;
-    give(&memory, Memory::feed, &log, |piece| replies.extend(piece))?;
+    give(bench, Bench::feed, log, |piece| right.extend(piece))?;
+    give(&memory, Memory::feed, log, |piece| replies.extend(piece))?;
     if replies != right || replies.len() != log.len() {
         return Err("bench: the replies differ".to_string());
     }
     let (mut ours, mut second) = (Vec::new(), Vec::new());
-    for _ in 0..RUNS {
-        ours.push(time(&memory, Memory::feed, &log)?);
-        second.push(time(&bench, Bench::feed, &log)?);
+    for _ in 0..runs {
+        ours.push(time(&memory, Memory::feed, log)?);
+        second.push(time(bench, Bench::feed, log)?);
     }
-    let (ours, second) = (Times::of(ours), Times::of(second));
+    Ok((Times::of(ours), Times::of(second)))
+}
+
+/// Both keepers over a log that wakes the last device of a table and lets all sleep again, over and
+/// over: the words to print.
+fn worst(table: &[u8]) -> Result<String, String> {
+    let start = second::load(table).expect("the table is good");
+    let last = start.n - 1;
+    let mut bench = start.clone();
+    let mut log = Vec::new();
+    let mut add = |bench: &mut Bench, kind: u8, device: u8| {
+        let record = write(kind, device, 0);
+        bench.record(record);
+        log.extend(record);
+    };
+    for device in 0..=last {
+        add(&mut bench, 1, device);
+    }
+    for _ in 0..ROUNDS {
+        add(&mut bench, 9, last);
+        while bench.callback != NO_CALLBACK {
+            let asked = bench.asked;
+            add(&mut bench, 13, asked);
+        }
+        for device in (0..=last).rev() {
+            add(&mut bench, 8, device);
+            add(&mut bench, 13, device);
+        }
+    }
+    let (ours, second) = both(&start, &log, RUNS)?;
     Ok(format!(
-        "bench: {RECORDS} records, {} devices, {} links, pieces of {MAX_PIECE} bytes, {RUNS} runs each\n\
-         keeper: {ours}\nsecond: {second}\nratio of medians {:.2}\nratio {:.2}",
-        bench.n,
-        bench.m,
-        ours.median / second.median,
+        "{} records: keeper {ours}; second {second}; ratio {:.2}",
+        log.len() / 4,
         ours.best / second.best
     ))
 }
@@ -69,7 +114,7 @@ fn time<B: Clone, E: fmt::Display>(
     give(start, feed, log, |replies| {
         black_box(replies);
     })?;
-    Ok(before.elapsed().as_nanos() as f64 / RECORDS as f64)
+    Ok(before.elapsed().as_nanos() as f64 * 4.0 / log.len() as f64)
 }
 
 /// The best and the median of several times.

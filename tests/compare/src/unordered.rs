@@ -44,6 +44,10 @@ fn same(memory: &Memory, device: u8) -> Result<u64, String> {
     if marks != right {
         return Err(format!("wake set {marks:?}, not {right:?}"));
     }
+    let marks = memory.wake_recursion(device);
+    if marks != right {
+        return Err(format!("wake set by recursion {marks:?}, not {right:?}"));
+    }
     let lowest = (0..DEVICE_ROWS).find(|&q| right[q]);
     let lowest = lowest.map_or(memory.cell(NUMBERS, 0), |q| q as u32);
     if u32::from(memory.lowest(device)) != lowest {

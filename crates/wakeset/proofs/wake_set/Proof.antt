@@ -1,23 +1,19 @@
--- Marking joins the device's set to no marks; a powered device's set is empty. Assumes nothing.
+-- The sweep leaves the marks of the wake set; a powered device's set is empty. Assumes nothing.
 use Rattle.model.specs.Limits.{ROWS}
-use Rattle.wakeset.proofs.Marking.{marks-powered}
-use Rattle.wakeset.proofs.Members.{wake-marks}
+use Rattle.wakeset.proofs.Members.{powered-marks, wake-marks}
 use borrow.Author.Needs.{needs}
 use Rattle.wakeset.proofs.wake_set.Statement.{statement}
 use Rattle.wakeset.proofs.wake_set.Tie as tie
 
--- t is powered; the lowest number is not asked for, so any will do
+-- t is powered
 returns : tie.Need-returns
 unfolding ROWS
-returns c = wake-marks (marks-powered {low = 0} (λ words. rw (c .before .status .ensures words) at (c .if1 .taken)))
+returns c = powered-marks (λ words. rw (c .before .status .ensures words) at (c .if1 .taken))
 
 -- t sleeps
-asleep : tie.Need-mark-requires
-asleep c κs = λ words. rw (c .before .before .status .ensures words) at (c .before .if1 .left)
-
 returns-2 : tie.Need-returns-2
 unfolding ROWS
-returns-2 c = wake-marks (c .mark .ensures)
+returns-2 c = let test = c .before .before in wake-marks (λ words. rw (test .before .status .ensures words) at (test .if1 .left)) (c .sweep .ensures)
 
 pub wake-set-spec : {M : Type 1} → statement M
-wake-set-spec = tie.close (tie.spec (λ c κs. search needs) returns asleep returns-2)
+wake-set-spec = tie.close (tie.spec (λ c κs. search needs) returns (λ c κs. search needs) returns-2)
