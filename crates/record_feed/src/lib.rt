@@ -2,6 +2,7 @@
 ghost use Rattle.record_loop.specs.Runs.{Room};
 ghost use Rattle.record_feed.specs.Pieces.{Took, FedIn};
 use basics::wide8;
+use links::FIRSTS;
 use memory::BYTES;
 use memory::WORDS;
 use model::PIECE;
@@ -12,12 +13,13 @@ use record_piece::Carried;
 fn take_piece<'a>(
     bytes: &mut [u8; BYTES],
     words: &mut [u32; WORDS],
+    first: &'a [u16; FIRSTS],
     used: usize,
     piece: &'a [u8],
     replies: &mut [u8],
 )
     requires { ⌜ Room used (now piece) (now replies) ⌝ }
-    ensures { λ _. ⌜ Took used (now (bytes .entry)) (now (words .entry)) (now (piece .entry)) (now (replies .entry))
+    ensures { λ _. ⌜ Took used (now (first .entry)) (now (bytes .entry)) (now (words .entry)) (now (piece .entry)) (now (replies .entry))
         (now (bytes .exit)) (now (words .exit)) (now (replies .exit)) ⌝ }
 {
     let held = memory::carry(bytes);
@@ -25,9 +27,8 @@ fn take_piece<'a>(
         bytes: held,
         used: used,
     };
-    let first = links::index(bytes, words);
     memory::set_carried(bytes, [0, 0, 0], 0);
-    let left = record_piece::answer_piece(bytes, words, &first, carried, piece, replies);
+    let left = record_piece::answer_piece(bytes, words, first, carried, piece, replies);
     let total = used + piece.len();
     memory::set_carried(bytes, left, (total % 4) as u8);
 }
@@ -42,7 +43,8 @@ pub fn feed<'a>(
     ensures { λ r. ⌜ FedIn (now (bytes .entry)) (now (words .entry)) (now (piece .entry)) (now (replies .entry))
         (now (bytes .exit)) (now (words .exit)) r (now (replies .exit)) ⌝ }
 {
-    if !sound_callback::sound(bytes, words) {
+    let first = links::index(bytes, words);
+    if !sound_callback::sound_by(bytes, words, &first) {
         return Answer::Unsound;
     }
     if PIECE < piece.len() {
@@ -53,6 +55,6 @@ pub fn feed<'a>(
     if replies.len() < 4 * count {
         return Answer::Room;
     }
-    take_piece(bytes, words, used, piece, replies);
+    take_piece(bytes, words, &first, used, piece, replies);
     Answer::Taken(count as u16)
 }

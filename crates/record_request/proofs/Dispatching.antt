@@ -50,11 +50,14 @@ module _ {kind v p : ℕ} {first bytes₀ words₀ bytes words : List ℕ} {r : 
         | yes e ↦
             let done = on .putting e in
             record { is = λ g h l. line-6 s p v e ∙ done .is (h .ready .carried); stays = λ f. put-idle-stays s _ p _ (done .is f) }
-        | no n ↦ elim (ℕ-discrete kind 8) [
-          | yes e ↦ let done = on .suspending e in record { is = λ g h l. line-8 s p v e ∙ done .is h l; stays = done .stays }
+        | no n ↦ elim (decLt kind 8) [
+          | yes l ↦
+              let done = on .idling n l in
+              record { is = λ g h b. line-7 s p v (omega (arith, n)) ∙ done .is (h .ready .carried); stays = λ f. idle-stays s _ p _ (done .is f) }
           | no m ↦
-              let done = on .idling n m in
-              record { is = λ g h l. line-7 s p v (omega (arith, n, m)) ∙ done .is (h .ready .carried); stays = λ f. idle-stays s _ p _ (done .is f) }
+              let e : kind ≡ 8 = omega arith in
+              let done = on .suspending (omega arith) in
+              record { is = λ g h l. line-8 s p v e ∙ done .is h l; stays = done .stays }
         ]
       ]
 

@@ -1,12 +1,12 @@
 -- A chain of tests as one code, kind 6 as a put and what follows, and a suspend callback's result as three changes of the state. Assumes nothing.
-use mathlib.Core.Path.{_≡_, refl, _∙_, ap}
+use mathlib.Core.Path.{_≡_, refl, _∙_, ap, subst}
 use mathlib.Core.Bool.{Bool, true, false, not}
 use mathlib.Core.List.{List}
 use Prim.Native.Nat.{ℕ, _<_, _≤_}
 use native.Mathlib.Omega.{arith}
-use native.Mathlib.Decide.{decLt}
+use native.Mathlib.Decide.{ℕ-discrete, decLt}
 use lib.Dec.{ltb, eqb}
-use borrow.Author.Tests.{lt-ltb, le-ltb, eq-eqb, ne-eqb}
+use borrow.Author.Tests.{lt-ltb, le-ltb}
 use Rattle.model.specs.Limits.{EAGAIN, minus}
 use Rattle.model.specs.Logic.{if_then_else_}
 use Rattle.model.specs.State.{State, SUSPENDED, ACTIVE, statusAt, withStatus, withCallback, withError}
@@ -16,10 +16,10 @@ use Rattle.model.specs.Steps.{suspendResult}
 use Rattle.memory.specs.Layout.{stateIn}
 use Rattle.memory.proofs.Readiness.{stays-full}
 use Rattle.request_answer.specs.declared.Reply.{Reply}
-use Rattle.request_answer.specs.Promises.{Leads, magnitude}
+use Rattle.request_answer.specs.Promises.{Leads, LeadsBy, magnitude}
 use Rattle.request_hold.proofs.Chained.{held-stop, held-go, put-stays}
 use Rattle.request_suspend.specs.Parts.{passing, settled}
-use Rattle.request_suspend.specs.Sleeps.{Rests, LetsSleep}
+use Rattle.request_suspend.specs.Sleeps.{PutFirst, LetsSleep}
 
 -- ---- two tests as one code: the first that is not 0 stops, and with none the request goes on
 module _ (stop : ℕ → Done) (on : Done) (t d : ℕ) {code : ℕ} (chosen : code ≡ (if ltb 0 t then t else d)) where
@@ -53,16 +53,16 @@ abbrev refusesAsleep : Bool → ℕ
 refusesAsleep a = if a then 1 else 0
 
 unfoldable pub restCode : State → ℕ → Bool → ℕ
-restCode s p suspends =
+restCode s p idles =
     if ltb 0 (suspendTest s p) then suspendTest s p
-    else if suspends then refusesAsleep (asleep s p)
-    else needsAwake (awake s p)
+    else if idles then needsAwake (awake s p)
+    else refusesAsleep (asleep s p)
 
 module _ (s : State) (p : ℕ) where
-  pub code-of : {code t d a b : ℕ} (suspends : Bool) → t ≡ suspendTest s p → a ≡ needsAwake (awake s p) → b ≡ refusesAsleep (asleep s p)
-      → d ≡ (if suspends then b else a) → code ≡ (if ltb 0 t then t else d) → code ≡ restCode s p suspends
+  pub code-of : {code t d a b : ℕ} (idles : Bool) → t ≡ suspendTest s p → a ≡ needsAwake (awake s p) → b ≡ refusesAsleep (asleep s p)
+      → d ≡ (if idles then a else b) → code ≡ (if ltb 0 t then t else d) → code ≡ restCode s p idles
   unfolding restCode
-  code-of suspends test waking sleeping asked chosen = rw (chosen, test, asked, waking, sleeping)
+  code-of idles test waking sleeping asked chosen = rw (chosen, test, asked, waking, sleeping)
 
   abbrev asksIdle : Done
   asksIdle = ask (withCallback s 3 p p) 3 p
@@ -89,23 +89,23 @@ module _ (s : State) (p : ℕ) where
       go true = refl
       go false = refl
 
-  module _ {code : ℕ} {suspends : Bool} (is : code ≡ restCode s p suspends) where
-    abbrev of : {b : Bool} → suspends ≡ b → code ≡ restCode s p b
+  module _ {code : ℕ} {idles : Bool} (is : code ≡ restCode s p idles) where
+    abbrev of : {b : Bool} → idles ≡ b → code ≡ restCode s p b
     of e = is ∙ ap (restCode s p) e
 
-    pub idle-stops : suspends ≡ false → 0 < code → idle s p ≡ finished s p code
+    pub idle-stops : idles ≡ true → 0 < code → idle s p ≡ finished s p code
     unfolding restCode if_then_else_
     idle-stops e l = idle-form ∙ stops (λ x. finished s p x) asksIdle (suspendTest s p) (needsAwake (awake s p)) (of e) l
 
-    pub idle-asks : suspends ≡ false → code ≤ 0 → idle s p ≡ asksIdle
+    pub idle-asks : idles ≡ true → code ≤ 0 → idle s p ≡ asksIdle
     unfolding restCode if_then_else_
     idle-asks e l = idle-form ∙ goes (λ x. finished s p x) asksIdle (suspendTest s p) (needsAwake (awake s p)) (of e) l
 
-    pub suspend-stops : suspends ≡ true → 0 < code → suspend s p ≡ finished s p code
+    pub suspend-stops : idles ≡ false → 0 < code → suspend s p ≡ finished s p code
     unfolding restCode if_then_else_
     suspend-stops e l = suspend-form ∙ stops (λ x. finished s p x) (askSuspend s p) (suspendTest s p) (refusesAsleep (asleep s p)) (of e) l
 
-    pub suspend-asks : suspends ≡ true → code ≤ 0 → suspend s p ≡ askSuspend s p
+    pub suspend-asks : idles ≡ false → code ≤ 0 → suspend s p ≡ askSuspend s p
     unfolding restCode if_then_else_
     suspend-asks e l = suspend-form ∙ goes (λ x. finished s p x) (askSuspend s p) (suspendTest s p) (refusesAsleep (asleep s p)) (of e) l
 
@@ -124,14 +124,32 @@ put-goes bytes₀ words₀ words₁ {p = p} e z on =
     let start = stateIn bytes₀ words₀ in
     record { is = λ h. held-go _ _ _ _ _ (λ s. idle s p) _ e z ∙ on .is (stays-full bytes₀ words₀ bytes₀ words₁ (put-stays start _ _ _ e) h) }
 
-module _ {kind p : ℕ} {first bytes₀ words₀ bytes words : List ℕ} {r : Reply} where
-  -- the promise of the one path, by its kind
-  pub as-put : kind ≡ 6 → Leads putIdle bytes₀ words₀ p bytes words r → LetsSleep kind first bytes₀ words₀ p bytes words r
-  as-put e on = record { putting = λ f. on; suspending = λ f. absurd (omega (arith, e, f)); idling = λ n m. absurd (n e) }
+-- what follows the put: an idle or a suspend, from where it left the words
+pub record Rests (idles : Bool) (first bytes₀ words₀ : List ℕ) (p : ℕ) (bytes words : List ℕ) (r : Reply) : Type 0 where
+  pub idling : idles ≡ true → Leads idle bytes₀ words₀ p bytes words r
+  pub suspending : idles ≡ false → LeadsBy suspend first bytes₀ words₀ p bytes words r
 
-  pub as-other : (kind ≡ 6 → ⊥) → Rests (eqb kind 8) first bytes₀ words₀ p bytes words r → LetsSleep kind first bytes₀ words₀ p bytes words r
-  as-other n on =
-      record { putting = λ e. absurd (n e); suspending = λ e. on .suspending (eq-eqb _ _ e); idling = λ n m. on .idling (ne-eqb _ _ m) }
+module _ {kind p code : ℕ} {first bytes₀ words₀ words₁ : List ℕ} (begun : PutFirst kind words₀ p words₁ code) where
+  as-put : {bytes words : List ℕ} {r : Reply} → kind ≡ 6 → Leads putIdle bytes₀ words₀ p bytes words r → LetsSleep kind first bytes₀ words₀ p bytes words r
+  as-put e on = record { putting = λ f. on; idling = λ n l. absurd (n e); suspending = λ l. absurd (omega arith) }
+
+  -- the put was -75
+  pub slept-stop : (r : Reply) → r ≡ record { kind = 0; device = p; code = code } → (code ≡ 0 → ⊥) → LetsSleep kind first bytes₀ words₀ p bytes₀ words₁ r
+  slept-stop r told ne =
+      elim (ℕ-discrete kind 6) [
+        | yes e ↦ as-put e (record { is = λ h. rw told (put-stops _ _ _ (begun .puts e bytes₀) ne) })
+        | no n ↦ absurd (ne (begun .none n .1))
+      ]
+
+  -- the put was not, or there was none
+  pub slept-go : {bytes words : List ℕ} {r : Reply} → code ≡ 0 → Rests (ltb kind 8) first bytes₀ words₁ p bytes words r → LetsSleep kind first bytes₀ words₀ p bytes words r
+  slept-go {bytes} {words} {r} z on =
+      elim (ℕ-discrete kind 6) [
+        | yes e ↦ as-put e (put-goes bytes₀ words₀ words₁ (begun .puts e bytes₀) z (on .idling (lt-ltb kind 8 (omega arith))))
+        | no n ↦
+            let same = subst (λ (w : List ℕ). Rests (ltb kind 8) first bytes₀ w p bytes words r) (begun .none n .0) on in
+            record { putting = λ e. absurd (n e); idling = λ m l. same .idling (lt-ltb kind 8 l); suspending = λ l. same .suspending (le-ltb kind 8 l) }
+      ]
 
 -- ---- a suspend callback's result
 module _ (s : State) (p v : ℕ) {a b : State} {z : ℕ} (set : a ≡ withStatus s p z) (close : b ≡ withCallback a 0 0 0) (status : z ≡ settled v) where

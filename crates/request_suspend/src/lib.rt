@@ -6,7 +6,7 @@ ghost use Rattle.model.specs.Requests.{askSuspend};
 ghost use Rattle.model.specs.Steps.{idleResult, suspendResult};
 ghost use Rattle.request_answer.specs.Promises.{LeadsBy};
 ghost use Rattle.request_suspend.specs.Parts.{passing, settled};
-ghost use Rattle.request_suspend.specs.Sleeps.{Rests, LetsSleep};
+ghost use Rattle.request_suspend.specs.Sleeps.{PutFirst, LetsSleep};
 use basics::choose;
 use links::FIRSTS;
 use memory::BYTES;
@@ -46,34 +46,18 @@ fn ask_suspend<'a>(
     ask(1, p)
 }
 
-// Kinds 7 and 8: the suspend test, then what the kind asks of the status; idle or suspend follows. One path for both, since which of them a
-// record has cannot be foreseen.
-fn rest<'a>(
-    bytes: &mut [u8; BYTES],
-    words: &mut [u32; WORDS],
-    first: &'a [u16; FIRSTS],
-    suspends: bool,
-    p: u8,
-) -> Reply
-    ensures { λ r. ⌜ Rests suspends (now (first .entry)) (now (bytes .entry)) (now (words .entry)) p (now (bytes .exit)) (now (words .exit)) r ⌝ }
+// The put that kind 6 begins with: its code; 0 for any other kind.
+fn put_first(words: &mut [u32; WORDS], kind: u8, p: u8) -> u16
+    ensures { λ r. ⌜ PutFirst kind (now (words .entry)) p (now (words .exit)) r ⌝ }
 {
-    let awake = choose(status(bytes, p) == ACTIVE, 0, EAGAIN);
-    let asleep = choose(status(bytes, p) == SUSPENDED, 1, 0);
-    let code = first_code(
-        suspend_test(bytes, words, p),
-        choose(suspends, asleep, awake),
-    );
-    if 0 < code {
-        return finished(p, code);
+    if kind == 6 {
+        return request_hold::put(words, p);
     }
-    if suspends {
-        return ask_suspend(bytes, words, first, p);
-    }
-    set_callback(bytes, 3, p, p);
-    ask(3, p)
+    0
 }
 
-// Kinds 6, 7 and 8. Kind 6 is a put, and unless that was -75 kind 7 follows.
+// Kinds 6, 7 and 8. Kind 6 is a put, and unless that was -75 kind 7 follows. Kinds 7 and 8 make the suspend test and then ask something of
+// the status; idle or suspend follows. One path for the three, since which of them a record has cannot be foreseen.
 pub fn let_sleep<'a>(
     bytes: &mut [u8; BYTES],
     words: &mut [u32; WORDS],
@@ -83,13 +67,22 @@ pub fn let_sleep<'a>(
 ) -> Reply
     ensures { λ r. ⌜ LetsSleep kind (now (first .entry)) (now (bytes .entry)) (now (words .entry)) p (now (bytes .exit)) (now (words .exit)) r ⌝ }
 {
-    if kind == 6 {
-        let code = request_hold::put(words, p);
-        if code != 0 {
-            return finished(p, code);
-        }
+    let put = put_first(words, kind, p);
+    if put != 0 {
+        return finished(p, put);
     }
-    rest(bytes, words, first, kind == 8, p)
+    let awake = choose(status(bytes, p) == ACTIVE, 0, EAGAIN);
+    let asleep = choose(status(bytes, p) == SUSPENDED, 1, 0);
+    let own = choose(kind < 8, awake, asleep);
+    let code = first_code(suspend_test(bytes, words, p), own);
+    if 0 < code {
+        return finished(p, code);
+    }
+    if kind < 8 {
+        set_callback(bytes, 3, p, p);
+        return ask(3, p);
+    }
+    ask_suspend(bytes, words, first, p)
 }
 
 // The result v of the idle callback of device p.

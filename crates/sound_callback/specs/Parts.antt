@@ -7,9 +7,9 @@ use lib.ListN.{getD}
 use lib.Dec.{leb, eqb}
 use Rattle.model.specs.Logic.{_or_, _implies_}
 use Rattle.model.specs.State.{State, Carry}
-use Rattle.model.specs.SoundTest.{steadyTest, keptTest, resumeOpenTest}
+use Rattle.model.specs.SoundTest.{steadyTest, keptTest, resumeOpenTest, soundTest}
 use Rattle.memory.specs.Layout.{stateIn}
-use Rattle.links.specs.Firsts.{firstLinks}
+use Rattle.links.specs.Firsts.{firstLinks, IndexIs}
 
 -- carried byte i is used, or 0
 unfoldable pub spareTest : Carry → ℕ → Bool
@@ -33,3 +33,8 @@ ofResume s = resumeOpenTest s (s .callback .asked) (s .callback .target)
 -- a test of the open callback, where the columns passed theirs and the index of the links is right
 pub record Judges (test : State → Bool) (first bytes words : List ℕ) (r : Bool) : Type 0 where
   pub is : let s = stateIn bytes words in keptTest (s .wiring) (s .devices) ≡ true → first ≡ firstLinks (s .wiring) → r ≡ test s
+
+-- the whole test, with the index that `links::index` makes; with any other, a bench that passes has at least its columns in order
+pub record SoundBy (first bytes words : List ℕ) (r : Bool) : Type 0 where
+  pub is : IndexIs (stateIn bytes words .wiring) first → r ≡ soundTest (stateIn bytes words)
+  pub columns : r ≡ true → keptTest (stateIn bytes words .wiring) (stateIn bytes words .devices) ≡ true

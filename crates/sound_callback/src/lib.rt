@@ -5,7 +5,7 @@ ghost use Prim.Native.Nat.{_<_};
 ghost use Rattle.model.specs.SoundTest.{carriedTest, steadyTest, allSteady, othersSteady, noneTest, suspendOpenTest};
 ghost use Rattle.model.specs.SoundTest.{idleOpenTest, callbackTest, soundTest};
 ghost use Rattle.memory.specs.Layout.{stateIn};
-ghost use Rattle.sound_callback.specs.Parts.{spareTest, otherSteady, ofAsked, ofResume, Tells, Judges};
+ghost use Rattle.sound_callback.specs.Parts.{spareTest, otherSteady, ofAsked, ofResume, Tells, Judges, SoundBy};
 use basics::both;
 use basics::row;
 use links::FIRSTS;
@@ -167,13 +167,24 @@ fn callback_good<'a>(
     }
 }
 
-// The bench is sound.
-pub fn sound<'a>(bytes: &'a [u8; BYTES], words: &'a [u32; WORDS]) -> bool
-    ensures { λ r. ⌜ r ≡ soundTest (stateIn (now (bytes .entry)) (now (words .entry))) ⌝ }
+// The bench is sound, by the index of its links. The index is looked at only after the columns passed: then it is right.
+pub fn sound_by<'a>(
+    bytes: &'a [u8; BYTES],
+    words: &'a [u32; WORDS],
+    first: &'a [u16; FIRSTS],
+) -> bool
+    ensures { λ r. ⌜ SoundBy (now (first .entry)) (now (bytes .entry)) (now (words .entry)) r ⌝ }
 {
     if !sound_columns::well_kept(bytes, words) {
         return false;
     }
+    both(carried_good(bytes), callback_good(bytes, words, first))
+}
+
+// The bench is sound.
+pub fn sound<'a>(bytes: &'a [u8; BYTES], words: &'a [u32; WORDS]) -> bool
+    ensures { λ r. ⌜ r ≡ soundTest (stateIn (now (bytes .entry)) (now (words .entry))) ⌝ }
+{
     let first = links::index(bytes, words);
-    both(carried_good(bytes), callback_good(bytes, words, &first))
+    sound_by(bytes, words, &first)
 }

@@ -11,15 +11,14 @@ returns : tie.Need-returns
 returns c =
     let answered = c .before .before .before .before in
     let lent = answered .before .before .before in
-    let cleared = lent .before .before in
-    let indexed = cleared .before .before in
-    let held = indexed .before .before .before in
+    let cleared = lent .before in
+    let held = cleared .before .before in
     let start = held .before .before .before .before in
     record {
-      is = λ h u.
+      is = λ i h u.
           let cells = long _ _ (ready h) in
           took (stateIn (start .args .bytes .now) (start .args .words .now)) h (held .carry .ensures _ cells) u (start .args .piece .now)
-          (indexed .index .ensures .is (h .kept .table .order .links))
+          (i .is (h .kept .table .order .links))
           (cleared .set-carried .ensures _ cells)
           (answered .answer-piece .ensures .is (start .pre) .is)
           (answered .answer-piece .ensures .left (start .pre))
@@ -29,5 +28,5 @@ returns c =
 pub take-piece-spec : {M : Type 1} → statement M
 take-piece-spec =
     tie.close
-    (tie.spec (λ c κs. search needs) (λ c κs. search needs) (λ c κs. search needs) (λ c κs. search needs) (λ c. search needs)
+    (tie.spec (λ c κs. search needs) (λ c κs. search needs) (λ c κs. search needs) (λ c. search needs)
     (λ c. search needs) (λ c κs. search needs) (λ c. search needs) returns)

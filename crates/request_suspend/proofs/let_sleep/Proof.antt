@@ -1,26 +1,95 @@
--- Kind 6's put is -75 and ends the request, or idle goes on from the state that it left; the other kinds have only what follows. Assumes nothing.
-use mathlib.Core.Path.{refl}
-use mathlib.Core.Logic.{⊎-elim}
-use Rattle.request_suspend.proofs.Changes.{put-stops, put-goes, as-put, as-other}
+-- Kind 6's put is -75 and ends the request; else the code chosen is 0 only where every test of the kind passed, and otherwise it is the
+-- first that did not. Assumes nothing.
+use mathlib.Core.Path.{_≡_, refl, _∙_}
+use mathlib.Core.List.{List}
+use Prim.Native.Nat.{ℕ}
+use lib.Dec.{ltb}
+use borrow.Author.Tests.{lt-ltb, le-ltb}
+use Rattle.model.proofs.Basics.{never}
+use Rattle.memory.specs.Layout.{stateIn}
+use Rattle.memory.proofs.Readiness.{full-long}
+use Rattle.request_suspend.proofs.Changes.{restCode, code-of, idle-stops, idle-asks, suspend-stops, suspend-asks, slept-stop, slept-go}
 use borrow.Author.Needs.{needs}
 use Rattle.request_suspend.proofs.let_sleep.Statement.{statement}
 use Rattle.request_suspend.proofs.let_sleep.Tie as tie
 
+-- no put, or one that was done, from where the code is chosen; before it stands the put
+abbrev going : tie.After-first-code → tie.Else1
+going c =
+    let tested = c .before in
+    let own = tested .before .before .before in
+    let asleep = own .before in
+    let awake = asleep .before .before .before in
+    awake .before .before .before
+
+-- the words after it
+abbrev put-words : tie.After-first-code → List ℕ
+put-words c = going c .before .put-first .last .0
+
+-- the code is the kind's
+coded : (c : tie.After-first-code) → let a = going c .before .before .before .args in
+    c .first-code .result ≡ restCode (stateIn (a .bytes .now) (put-words c)) (a .p) (ltb (a .kind) 8)
+coded c =
+    let tested = c .before in
+    let own = tested .before .before .before in
+    let asleep = own .before in
+    let awake = asleep .before .before .before in
+    let waking = rw (awake .before .status .ensures (put-words c)) at (awake .choose .ensures) in
+    let sleeping = rw (asleep .before .status2 .ensures (put-words c)) at (asleep .choose2 .ensures) in
+    code-of _ _ _ (tested .suspend-test .ensures) waking sleeping (own .choose3 .ensures) (c .first-code .ensures)
+
 -- the put was -75
 returns : tie.Need-returns
-returns c =
-    let stopped = c .before in
-    let held = stopped .before in
-    as-put (held .before .before .if1 .taken) (record { is = λ h. rw (c .finished .ensures) (put-stops _ _ _ (held .put .ensures _) (stopped .if2 .taken)) })
+returns c = let stopped = c .before in slept-stop (stopped .before .put-first .ensures) _ (c .finished .ensures) (stopped .if1 .taken)
 
--- the put was not, or there was none
+-- a test fails
 returns-2 : tie.Need-returns-2
 returns-2 c =
-    let met = c .before .before .before in
-    ⊎-elim
-    (λ w. as-put (w .0 .taken) (put-goes _ _ _ (w .2 .ensures _) (w .3 .left) (rw (w .4, w .0 .taken) at (c .rest .ensures) .idling refl)))
-    (λ w. as-other (w .0 .left) (rw (w .1) at (c .rest .ensures)))
-    (met .if1 .came)
+    let failed = c .before in
+    let code = coded (failed .before) in
+    let go = going (failed .before) in
+    slept-go (go .before .put-first .ensures) (go .if1 .left) (record {
+      idling = λ e. record { is = λ h. rw (c .finished2 .ensures) (idle-stops _ _ code e (failed .if2 .taken)) };
+      suspending = λ e. record { is = λ h l. rw (c .finished2 .ensures) (suspend-stops _ _ code e (failed .if2 .taken)); stays = λ f. refl };
+    })
+
+-- its idle callback is asked for
+returns-3 : tie.Need-returns-3
+returns-3 c =
+    let opened = c .before in
+    let idles = opened .before .before in
+    let passed = idles .before in
+    let go = going (passed .before) in
+    slept-go (go .before .put-first .ensures) (go .if1 .left) (record {
+      idling =
+          λ e.
+          record {
+            is =
+                λ h.
+                rw (opened .set-callback .ensures _ (full-long _ _ h), c .ask .ensures) (idle-asks _ _ (coded (passed .before)) e (passed .if2 .left));
+          };
+      suspending = λ e. never (lt-ltb _ _ (idles .if3 .taken)) e;
+    })
+
+-- it is asked to suspend
+returns-4 : tie.Need-returns-4
+returns-4 c =
+    let suspends = c .before .before .before in
+    let passed = suspends .before in
+    let go = going (passed .before) in
+    slept-go (go .before .put-first .ensures) (go .if1 .left) (record {
+      idling = λ e. never e (le-ltb _ _ (suspends .if3 .left));
+      suspending =
+          λ e.
+          record {
+            is = λ h l. suspend-asks _ _ (coded (passed .before)) e (passed .if2 .left) ∙ c .ask-suspend .ensures .is h l;
+            stays = c .ask-suspend .ensures .stays;
+          };
+    })
 
 pub let-sleep-spec : {M : Type 1} → statement M
-let-sleep-spec = tie.close (tie.spec (λ c κs. search needs) (λ c κs. search needs) returns (λ c κs. search needs) returns-2)
+let-sleep-spec =
+    tie.close
+    (tie.spec (λ c κs. search needs) (λ c κs. search needs) returns (λ c κs. search needs) (λ c κs. search needs) (λ c κs. search needs) (λ c κs. search needs)
+    (λ c κs. search needs) (λ c κs. search needs) (λ c κs. search needs) (λ c κs. search needs) returns-2 (λ c κs. search needs) (λ c κs. search needs) returns-3
+    (λ c κs. search needs) returns-4)

@@ -1,30 +1,10 @@
--- The columns are tested first; only where they pass is the index made, which is then right. Assumes nothing.
-use Rattle.model.specs.SoundTest.{soundTest}
-use Rattle.model.proofs.SoundTest.{kept-ordered}
-use Rattle.model.proofs.Chains.{and-stop, and-go, passed, failed}
+-- The index is that of the links. Assumes nothing.
 use borrow.Author.Needs.{needs}
 use Rattle.sound_callback.proofs.sound.Statement.{statement}
 use Rattle.sound_callback.proofs.sound.Tie as tie
 
--- the columns fail
 returns : tie.Need-returns
-unfolding soundTest
-returns c = and-stop _ (failed (c .before .well-kept .ensures) (c .if1 .taken))
-
--- the carried bytes and the open callback
-returns-2 : tie.Need-returns-2
-unfolding soundTest
-returns-2 c =
-    let judged = c .before in
-    let carried = judged .before .before in
-    let tested = carried .before .before in
-    let words = tested .before .before .args .words .now in
-    let e = passed (tested .before .well-kept .ensures) (tested .if1 .left) in
-    let first = carried .before .index .ensures .is (kept-ordered _ _ e .links) in
-    and-go e (rw (carried .carried-good .ensures .is words, judged .callback-good .ensures .is e first) at (c .both .ensures))
+returns c = c .sound-by .ensures .is (c .before .before .index .ensures)
 
 pub sound-spec : {M : Type 1} → statement M
-sound-spec =
-    tie.close
-    (tie.spec (λ c κs. search needs) returns (λ c κs. search needs) (λ c κs. search needs) (λ c κs. search needs) (λ c κs. search needs)
-    returns-2)
+sound-spec = tie.close (tie.spec (λ c κs. search needs) (λ c κs. search needs) returns)
