@@ -1,4 +1,5 @@
--- P1 to P14 as a single claim over a list, and with them the slips of document 01, worked out from the day's table. Assumes nothing.
+-- P1 to P14 as a single claim over a list, and with them the slips of document 01 and request Three's codes, worked out from the day's
+-- table. Assumes nothing.
 use mathlib.Core.Path.{_≡_, refl}
 use mathlib.Core.List.{List, [], _∷_, _++_, flatMap}
 use Rattle.model.specs.Limits.{DEVICES, LINKS, ROWS}
@@ -7,7 +8,7 @@ use Rattle.model.specs.Table.{markGood, versionGood, limitsGood, lengthG
 use Rattle.model.specs.State.{isChild, isLive, childCount, linkCount, childrenOf, linkedOf, atRest, loaded, loadOf}
 use Rattle.model.specs.WakeSet.{marksChild, marksConsumer, belongs, sweep, wakeMarks, inWake, lowest}
 use Rattle.model.specs.Records.{kinds, allowed, fault}
-use Rattle.model.specs.Requests.{enable, disable, get, put, suspendTest, askSuspend, idle, suspend, barred, othersBarred, askResume, wake, getWake, putIdle, running, parentDown, supplierDown, setActive, needed, setSuspended, ignoreChildren}
+use Rattle.model.specs.Requests.{enable, disable, get, put, suspendTest, askSuspend, idle, suspend, barred, othersBarred, askResume, wake, getWake, idleUnused, putIdle, running, parentDown, supplierDown, setActive, needed, setSuspended, ignoreChildren}
 use Rattle.model.specs.Steps.{idleResult, suspendResult, goOn, resumeResult, result, request, resultStep, busy, recordStep, byteStep, run, repliesIn}
 use Rattle.model.specs.Day.{dayTable, Row, row, day, Claim, claims, given, expected, Hold}
 
@@ -24,7 +25,7 @@ pub slips : List Claim
 slips =
     from (
     -- a get and wake that fails keeps its hold: one put finds it, the next does not
-    row 0x04 0x02 0x00 0x00 0x00 0x02 0xf5 0xff
+    row 0x04 0x02 0x00 0x00 0x00 0x02 0xf3 0xff
     ∷ row 0x05 0x02 0x00 0x00 0x00 0x02 0x00 0x00
     ∷ row 0x05 0x02 0x00 0x00 0x00 0x02 0xb5 0xff
     ∷ [])
@@ -68,14 +69,48 @@ slips =
     ∷ [])
     ∷ []
 
--- ---- P1 to P14, and the slips
-pub worked : Hold (claims ++ slips)
-unfolding flatMap given expected claims slips dayTable day
+-- ---- request Three: the code of a disabled device, and put and idle of one that is still in use
+pub codes : List Claim
+codes =
+    from (
+    -- idle, suspend and wake of a disabled device are answered -13; so is a put and idle, but only once its last hold is gone
+    row 0x07 0x02 0x00 0x00 0x00 0x02 0xf3 0xff
+    ∷ row 0x08 0x02 0x00 0x00 0x00 0x02 0xf3 0xff
+    ∷ row 0x09 0x02 0x00 0x00 0x00 0x02 0xf3 0xff
+    ∷ row 0x03 0x02 0x00 0x00 0x00 0x02 0x00 0x00
+    ∷ row 0x03 0x02 0x00 0x00 0x00 0x02 0x00 0x00
+    ∷ row 0x06 0x02 0x00 0x00 0x00 0x02 0x00 0x00
+    ∷ row 0x06 0x02 0x00 0x00 0x00 0x02 0xf3 0xff
+    -- other members of the wake set that are disabled: -16
+    ∷ row 0x01 0x02 0x00 0x00 0x00 0x02 0x00 0x00
+    ∷ row 0x09 0x02 0x00 0x00 0x00 0x02 0xf0 0xff
+    ∷ [])
+    ∷ from (
+    -- a put and idle of the reference, in use by the converter's link alone: 0
+    day
+    ++ row 0x03 0x01 0x00 0x00 0x00 0x01 0x00 0x00
+    ∷ row 0x06 0x01 0x00 0x00 0x00 0x01 0x00 0x00
+    -- set active and set suspended of a device that runs: -11
+    ∷ row 0x0a 0x01 0x00 0x00 0x00 0x01 0xf5 0xff
+    ∷ row 0x0b 0x01 0x00 0x00 0x00 0x01 0xf5 0xff
+    -- a suspend result -13 is kept; the failed converter's puts: 0 while it is held, then -22
+    ∷ row 0x08 0x02 0x00 0x00 0x01 0x02 0x00 0x00
+    ∷ row 0x0d 0x02 0xf3 0xff 0x00 0x02 0xf3 0xff
+    ∷ row 0x03 0x02 0x00 0x00 0x00 0x02 0x00 0x00
+    ∷ row 0x03 0x02 0x00 0x00 0x00 0x02 0x00 0x00
+    ∷ row 0x06 0x02 0x00 0x00 0x00 0x02 0x00 0x00
+    ∷ row 0x06 0x02 0x00 0x00 0x00 0x02 0xea 0xff
+    ∷ [])
+    ∷ []
+
+-- ---- P1 to P14, the slips, and request Three
+pub worked : Hold (claims ++ slips ++ codes)
+unfolding flatMap given expected claims slips codes dayTable day
     loadOf tableAnswer markGood versionGood limitsGood lengthGood parentGood endsGood before deviceGood linkFits ascends linkGood
     badDevice badLink entriesAnswer cell padded wiringIn atRest loaded DEVICES LINKS ROWS
     if_then_else_ _and_ _or_ any first count tally column
     isChild isLive childCount linkCount childrenOf linkedOf marksChild marksConsumer belongs sweep wakeMarks inWake lowest
-    kinds allowed fault enable disable get put suspendTest askSuspend idle suspend barred othersBarred askResume wake getWake putIdle
+    kinds allowed fault enable disable get put suspendTest askSuspend idle suspend barred othersBarred askResume wake getWake idleUnused putIdle
     running parentDown supplierDown setActive needed setSuspended ignoreChildren
     idleResult suspendResult goOn resumeResult result request resultStep busy recordStep byteStep run repliesIn
 worked = refl

@@ -7,7 +7,7 @@ use borrow.Author.Tests.{eq-eqb, ne-eqb}
 use Rattle.model.specs.Logic.{if_then_else_}
 use Rattle.model.specs.State.{State}
 use Rattle.model.specs.Records.{Rec, RESULT, allowed}
-use Rattle.model.specs.Requests.{getWake, putIdle}
+use Rattle.model.specs.Requests.{getWake, idleUnused, putIdle}
 use Rattle.model.specs.Steps.{result, recordStep}
 use Rattle.model.specs.Sound.{CallbackRules, noneOpen, suspendOpen, resumeOpen, idleOpen, Sound}
 use Rattle.model.proofs.Basics.{by-if}
@@ -25,8 +25,8 @@ module _ {s : State} (h : Sound s) (o : s .callback .kind ≡ 0) (p : ℕ) (l : 
   getWake-good = by-if Good _ _ _ (λ e. h) (λ e. wake-good (more-held h o p l e) o p l)
 
   putIdle-good : Good (putIdle s p)
-  unfolding putIdle
-  putIdle-good = by-if Good _ _ _ (λ e. h) (λ e. idle-good (less-held h o p l) o p l)
+  unfolding putIdle idleUnused
+  putIdle-good = by-if Good _ _ _ (λ e. h) (λ e. by-if Good _ _ _ (λ u. less-held h o p l) (λ u. idle-good (less-held h o p l) o p l))
 
   kinds-good : (v : ℕ) → Kinds (λ kind. Good) s p v
   kinds-good v =

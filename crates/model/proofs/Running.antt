@@ -13,7 +13,7 @@ use borrow.Author.Tests.{ltb-true, ltb-false, eqb-false, eq-eqb, ne-eqb}
 use Rattle.model.specs.Logic.{_and_, _or_, bit}
 use Rattle.model.specs.State.{State, Carry, holdsAt, withHolds, withCarry}
 use Rattle.model.specs.Records.{Rec, Done, finished}
-use Rattle.model.specs.Requests.{get, put, suspendTest, idle, askResume, wake, getWake, putIdle}
+use Rattle.model.specs.Requests.{get, put, suspendTest, idle, askResume, wake, getWake, idleUnused, putIdle}
 use Rattle.model.specs.Steps.{Exchange, Run, fourth, noneWait, recordStep, byteStep, run}
 use Rattle.model.specs.Sound.{Carried, Sound}
 use Rattle.model.specs.Demand3.{isGet, isPut, effective, counted}
@@ -180,13 +180,14 @@ module _ {s : State} (h : Sound s) (p : ℕ) (l : p < s .wiring .n) where
       (λ e. let z = eqb-false (holdsAt s p) 0 e in moved p row _ refl _ false true (omega arith) refl)
 
   moves-putIdle : Moves s p false true (putIdle s p)
-  unfolding putIdle effective _and_
+  unfolding putIdle idleUnused effective _and_
   moves-putIdle =
       by-if (Moves s p false true) _ _ _ (λ e. idle-reply p false true _ refl refl)
       (λ e.
       let z = eqb-false (holdsAt s p) 0 e in
       let t = withHolds s p (holdsAt s p - 1) in
-      moved p row _ (idle-counts t p) _ false true (omega arith) (on-idle (Same t) (same-stable t) refl p))
+      by-if (Moves s p false true) _ _ _ (λ u. moved p row _ refl _ false true (omega arith) refl)
+      (λ u. moved p row _ (idle-counts t p) _ false true (omega arith) (on-idle (Same t) (same-stable t) refl p)))
 
   -- a kind that is none of 3 to 6
   others : (kind : ℕ) → kind < 3 ⊎ 7 ≤ kind → (d : Done) → Same s (d .state) → Moves s p (isGet kind) (isPut kind) d

@@ -5,7 +5,7 @@ use Prim.Native.Nat.{ℕ, _<_, _≤_}
 use native.Mathlib.Omega.{arith}
 use Rattle.model.specs.State.{State, withIgnore, withHolds, withDepth, withError, withStatus, withCallback}
 use Rattle.model.specs.Records.{Rec, Done}
-use Rattle.model.specs.Requests.{enable, disable, get, put, askSuspend, idle, suspend, askResume, wake, getWake, putIdle, setActive, setSuspended, ignoreChildren}
+use Rattle.model.specs.Requests.{enable, disable, get, put, askSuspend, idle, suspend, askResume, wake, getWake, idleUnused, putIdle, setActive, setSuspended, ignoreChildren}
 use Rattle.model.specs.Steps.{idleResult, suspendResult, goOn, resumeResult, result, recordStep}
 use Rattle.model.proofs.Basics.{by-if}
 use Rattle.model.proofs.Steps.{Kinds, by-kind, by-record}
@@ -99,13 +99,13 @@ module _ (P : State → Type 0) (c : Stable P) where
   -- and where the holds' setter keeps it too, every record keeps it
   module _ (holds : (s : State) (p v : ℕ) → P s → P (withHolds s p v)) {s : State} (h : P s) where
     kinds-keep : (p v : ℕ) → Kinds (λ kind. On) s p v
-    unfolding get getWake put putIdle
+    unfolding get getWake put idleUnused putIdle
     kinds-keep p v =
         but-holds h p v (λ kind. On) (λ kind z d g. g)
         (by-if On _ _ _ (λ e. h) (λ e. holds s _ _ h))
         (by-if On _ _ _ (λ e. h) (λ e. on-wake (holds s _ _ h) p))
         (by-if On _ _ _ (λ e. h) (λ e. holds s _ _ h))
-        (by-if On _ _ _ (λ e. h) (λ e. on-idle (holds s _ _ h) p))
+        (by-if On _ _ _ (λ e. h) (λ e. by-if On _ _ _ (λ u. holds s _ _ h) (λ u. on-idle (holds s _ _ h) p)))
 
     pub step-keeps : (r : Rec) → P (recordStep s r .state)
     step-keeps r =

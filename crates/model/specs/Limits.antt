@@ -35,6 +35,9 @@ MAXPIECE = 4096
 abbrev pub EAGAIN : ℕ
 EAGAIN = 11
 
+abbrev pub EACCES : ℕ
+EACCES = 13
+
 abbrev pub EBUSY : ℕ
 EBUSY = 16
 

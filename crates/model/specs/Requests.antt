@@ -4,19 +4,19 @@ use mathlib.Core.Bool.{Bool, not}
 use Prim.Native.Nat.{ℕ, _+_, _-_, _%_}
 use lib.ListN.{getD}
 use lib.Dec.{ltb, leb, eqb}
-use Rattle.model.specs.Limits.{NONE, MAXHOLDS, MAXDEPTH, EAGAIN, EBUSY, EINVAL, EOVERFLOW, minus}
+use Rattle.model.specs.Limits.{NONE, MAXHOLDS, MAXDEPTH, EAGAIN, EACCES, EBUSY, EINVAL, EOVERFLOW, minus}
 use Rattle.model.specs.Logic.{if_then_else_, _and_, _or_, any}
 use Rattle.model.specs.State.{State, SUSPENDED, RESUMING, ACTIVE, SUSPENDING, statusAt, holdsAt, depthAt, errorAt, childrenAt, linkedAt, usage, countsChildren, withHolds, withDepth, withError, withStatus, withIgnore, withCallback}
 use Rattle.model.specs.WakeSet.{inWake, lowest}
 use Rattle.model.specs.Records.{Done, finished, ask}
 
 -- ---- what several kinds share
--- "The suspend test": its code, 0 where it is passed. An error: -22. Disabled: -11. In use by a holder or by a powered consumer: -11.
--- Powered children that count: -16
+-- "The suspend test": its code, 0 where it is passed. An error: -22. Disabled: -13 (request Three). In use by a holder or by a powered
+-- consumer: -11. Powered children that count: -16
 unfoldable pub suspendTest : State → ℕ → ℕ
 suspendTest s p =
     if ltb 0 (errorAt s p) then minus EINVAL
-    else if ltb 0 (depthAt s p) then minus EAGAIN
+    else if ltb 0 (depthAt s p) then minus EACCES
     else if ltb 0 (usage s p) then minus EAGAIN
     else if ltb 0 (childrenAt s p) and countsChildren s p then minus EBUSY
     else 0
@@ -63,12 +63,12 @@ idle s p =
     else if not (eqb (statusAt s p) ACTIVE) then finished s p (minus EAGAIN)
     else ask (withCallback s 3 p p) 3 p
 
--- kind 9, wake: an error: -22; disabled: -11; active already: 1; another member of the wake set that is barred: -16 (house); else the
--- lowest member is asked to resume
+-- kind 9, wake: an error: -22; disabled: -13 (request Three); active already: 1; another member of the wake set that is barred: -16
+-- (house); else the lowest member is asked to resume
 unfoldable pub wake : State → ℕ → Done
 wake s p =
     if ltb 0 (errorAt s p) then finished s p (minus EINVAL)
-    else if ltb 0 (depthAt s p) then finished s p (minus EAGAIN)
+    else if ltb 0 (depthAt s p) then finished s p (minus EACCES)
     else if eqb (statusAt s p) ACTIVE then finished s p 1
     else if othersBarred s p then finished s p (minus EBUSY)
     else askResume s p
@@ -104,11 +104,18 @@ put s p =
     if eqb (holdsAt s p) 0 then finished s p (minus EOVERFLOW)
     else finished (withHolds s p (holdsAt s p - 1)) p 0
 
--- kind 6, put and idle: as 5, and unless that was -75 then as 7, whatever the use count (house)
+-- what follows the put of kind 6 (request Three): in use still, by a holder or by a powered consumer: finished with 0, a disabled or
+-- failed device too; else as 7
+unfoldable pub idleUnused : State → ℕ → Done
+idleUnused s p =
+    if ltb 0 (usage s p) then finished s p 0
+    else idle s p
+
+-- kind 6, put and idle: as 5, and unless that was -75 an idle of the device if it is now unused
 unfoldable pub putIdle : State → ℕ → Done
 putIdle s p =
     if eqb (holdsAt s p) 0 then finished s p (minus EOVERFLOW)
-    else idle (withHolds s p (holdsAt s p - 1)) p
+    else idleUnused (withHolds s p (holdsAt s p - 1)) p
 
 -- kind 8, suspend: the suspend test's code; suspended already: 1; else it turns suspending and is asked
 unfoldable pub suspend : State → ℕ → Done

@@ -23,6 +23,8 @@ pub const SUSPENDING: u8 = 3;
 // Error codes as they stand in a reply: 65,536 less Linux's number.
 pub const EAGAIN: u16 = 65525;
 
+pub const EACCES: u16 = 65523;
+
 pub const EBUSY: u16 = 65520;
 
 pub const EINVAL: u16 = 65514;

@@ -3,21 +3,21 @@ use mathlib.Core.Path.{_≡_, refl, subst}
 use Prim.Native.Nat.{ℕ}
 use Rattle.model.specs.State.{State}
 use Rattle.model.specs.Records.{Reply, Done}
-use Rattle.model.specs.Requests.{idle, putIdle}
+use Rattle.model.specs.Requests.{idle, idleUnused, putIdle}
 use Rattle.model.proofs.Basics.{by-if}
 use Rattle.memory.specs.Ready.{fixed}
 
-module _ (s u : State) (p : ℕ) where
-  abbrev Stay : Done → Type 0
-  Stay d = fixed (d .state) ≡ fixed s
+abbrev Stay : State → Done → Type 0
+Stay s d = fixed (d .state) ≡ fixed s
 
-  module _ (r : Reply) where
-    pub idle-stays : idle s p ≡ record { state = u; reply = r } → fixed u ≡ fixed s
-    unfolding idle
-    idle-stays e = subst Stay e (by-if Stay _ _ _ (λ y. refl) (λ n. by-if Stay _ _ _ (λ y. refl) (λ n. refl)))
+idle-keeps : (s : State) (p : ℕ) → Stay s (idle s p)
+unfolding idle
+idle-keeps s p = by-if (Stay s) _ _ _ (λ y. refl) (λ n. by-if (Stay s) _ _ _ (λ y. refl) (λ n. refl))
 
-    pub put-idle-stays : putIdle s p ≡ record { state = u; reply = r } → fixed u ≡ fixed s
-    unfolding putIdle idle
-    put-idle-stays e =
-        subst Stay e
-        (by-if Stay _ _ _ (λ y. refl) (λ n. by-if Stay _ _ _ (λ y. refl) (λ n. by-if Stay _ _ _ (λ y. refl) (λ n. refl))))
+module _ (s u : State) (p : ℕ) (r : Reply) where
+  pub idle-stays : idle s p ≡ record { state = u; reply = r } → fixed u ≡ fixed s
+  idle-stays e = subst (Stay s) e (idle-keeps s p)
+
+  pub put-idle-stays : putIdle s p ≡ record { state = u; reply = r } → fixed u ≡ fixed s
+  unfolding putIdle idleUnused
+  put-idle-stays e = subst (Stay s) e (by-if (Stay s) _ _ _ (λ y. refl) (λ n. by-if (Stay s) _ _ _ (λ y. refl) (λ n. idle-keeps _ p)))

@@ -2,24 +2,26 @@
 use mathlib.Core.Path.{_≡_, refl, _∙_, ap, subst}
 use mathlib.Core.Bool.{Bool, true, false, not}
 use mathlib.Core.List.{List}
-use Prim.Native.Nat.{ℕ, _<_, _≤_}
+use Prim.Native.Nat.{ℕ, _+_, _<_, _≤_}
 use native.Mathlib.Omega.{arith}
 use native.Mathlib.Decide.{ℕ-discrete, decLt}
 use lib.Dec.{ltb, eqb}
-use borrow.Author.Tests.{lt-ltb, le-ltb}
+use borrow.Author.Tests.{lt-ltb, le-ltb, eq-eqb, eqb-true}
 use Rattle.model.specs.Limits.{EAGAIN, minus}
-use Rattle.model.specs.Logic.{if_then_else_}
-use Rattle.model.specs.State.{State, SUSPENDED, ACTIVE, statusAt, withStatus, withCallback, withError}
+use Rattle.model.specs.Logic.{if_then_else_, _and_, _or_}
+use Rattle.model.specs.State.{State, SUSPENDED, ACTIVE, statusAt, holdsAt, linkedAt, usage, withStatus, withCallback, withError}
 use Rattle.model.specs.Records.{Done, finished, ask}
-use Rattle.model.specs.Requests.{suspendTest, idle, put, putIdle, askSuspend, suspend}
+use Rattle.model.specs.Requests.{suspendTest, idle, put, idleUnused, putIdle, askSuspend, suspend}
 use Rattle.model.specs.Steps.{suspendResult}
+use Rattle.model.proofs.Basics.{and-parts, or-none}
+use Rattle.model.proofs.Logic.{not-fails}
 use Rattle.memory.specs.Layout.{stateIn}
 use Rattle.memory.proofs.Readiness.{stays-full}
 use Rattle.request_answer.specs.declared.Reply.{Reply}
 use Rattle.request_answer.specs.Promises.{Leads, LeadsBy, magnitude}
 use Rattle.request_hold.proofs.Chained.{held-stop, held-go, put-stays}
 use Rattle.request_suspend.specs.Parts.{passing, settled}
-use Rattle.request_suspend.specs.Sleeps.{PutFirst, LetsSleep}
+use Rattle.request_suspend.specs.Sleeps.{PutFirst, stillUsed, LetsSleep}
 
 -- ---- two tests as one code: the first that is not 0 stops, and with none the request goes on
 module _ (stop : ℕ → Done) (on : Done) (t d : ℕ) {code : ℕ} (chosen : code ≡ (if ltb 0 t then t else d)) where
@@ -111,18 +113,38 @@ module _ (s : State) (p : ℕ) where
 
 -- ---- kinds 6, 7 and 8
 -- a put of -75 ends kind 6
-pub put-stops : (s u : State) (p : ℕ) {code : ℕ} → put s p ≡ finished u p code → (code ≡ 0 → ⊥) → putIdle s p ≡ finished u p code
+put-stops : (s u : State) (p : ℕ) {code : ℕ} → put s p ≡ finished u p code → (code ≡ 0 → ⊥) → putIdle s p ≡ finished u p code
 unfolding put putIdle
-put-stops s u p e ne = held-stop _ _ _ _ _ (λ s. idle s p) _ e ne
+put-stops s u p e ne = held-stop _ _ _ _ _ (λ s. idleUnused s p) _ e ne
 
--- after any other it is an idle
-pub put-goes : (bytes₀ words₀ words₁ : List ℕ) {bytes words : List ℕ} {p code : ℕ} {r : Reply}
+-- any other is followed by an idle of an unused device
+put-goes : (bytes₀ words₀ words₁ : List ℕ) {bytes words : List ℕ} {p code : ℕ} {r : Reply}
     → put (stateIn bytes₀ words₀) p ≡ finished (stateIn bytes₀ words₁) p code → code ≡ 0
-    → Leads idle bytes₀ words₁ p bytes words r → Leads putIdle bytes₀ words₀ p bytes words r
+    → Leads idleUnused bytes₀ words₁ p bytes words r → Leads putIdle bytes₀ words₀ p bytes words r
 unfolding put putIdle
 put-goes bytes₀ words₀ words₁ {p = p} e z on =
     let start = stateIn bytes₀ words₀ in
-    record { is = λ h. held-go _ _ _ _ _ (λ s. idle s p) _ e z ∙ on .is (stays-full bytes₀ words₀ bytes₀ words₁ (put-stays start _ _ _ e) h) }
+    record { is = λ h. held-go _ _ _ _ _ (λ s. idleUnused s p) _ e z ∙ on .is (stays-full bytes₀ words₀ bytes₀ words₁ (put-stays start _ _ _ e) h) }
+
+-- which is finished with 0 while the device is in use
+used-stops : (s : State) (p : ℕ) → ltb 0 (usage s p) ≡ true → idleUnused s p ≡ finished s p 0
+unfolding idleUnused if_then_else_
+used-stops s p e = rw e
+
+-- and else an idle
+unused-idles : (s : State) (p : ℕ) → ltb 0 (usage s p) ≡ false → idleUnused s p ≡ idle s p
+unfolding idleUnused if_then_else_
+unused-idles s p e = rw e
+
+-- the device is in use: the sum of the two counts that are read
+pub used-by : (kind p : ℕ) {held supplied uses : ℕ} {r : Bool} (s : State) → held ≡ holdsAt s p → supplied ≡ linkedAt s p → uses ≡ held + supplied
+    → r ≡ eqb kind 6 and ltb 0 uses → r ≡ stillUsed kind s p
+unfolding stillUsed
+used-by kind p s h l sum both = rw (both, sum, h, l)
+
+-- kind 6 goes no further: the put was -75, or the device is in use
+abbrev pub ends : ℕ → State → ℕ → ℕ → Bool
+ends kind s p code = not (eqb code 0) or stillUsed kind s p
 
 -- what follows the put: an idle or a suspend, from where it left the words
 pub record Rests (idles : Bool) (first bytes₀ words₀ : List ℕ) (p : ℕ) (bytes words : List ℕ) (r : Reply) : Type 0 where
@@ -133,19 +155,34 @@ module _ {kind p code : ℕ} {first bytes₀ words₀ words₁ : List ℕ} (begu
   as-put : {bytes words : List ℕ} {r : Reply} → kind ≡ 6 → Leads putIdle bytes₀ words₀ p bytes words r → LetsSleep kind first bytes₀ words₀ p bytes words r
   as-put e on = record { putting = λ f. on; idling = λ n l. absurd (n e); suspending = λ l. absurd (omega arith) }
 
-  -- the put was -75
-  pub slept-stop : (r : Reply) → r ≡ record { kind = 0; device = p; code = code } → (code ≡ 0 → ⊥) → LetsSleep kind first bytes₀ words₀ p bytes₀ words₁ r
-  slept-stop r told ne =
-      elim (ℕ-discrete kind 6) [
-        | yes e ↦ as-put e (record { is = λ h. rw told (put-stops _ _ _ (begun .puts e bytes₀) ne) })
-        | no n ↦ absurd (ne (begun .none n .1))
+  -- kind 6 ends with its put
+  pub slept-stop : (r : Reply) → r ≡ record { kind = 0; device = p; code = code } → ends kind (stateIn bytes₀ words₁) p code ≡ true
+      → LetsSleep kind first bytes₀ words₀ p bytes₀ words₁ r
+  unfolding stillUsed _or_
+  slept-stop r told stop =
+      elim (ℕ-discrete code 0) [
+        | yes z ↦
+            let used = and-parts _ _ (rw (eq-eqb code 0 z) at stop) in
+            let six = eqb-true _ _ (used .0) in
+            as-put six (put-goes bytes₀ words₀ words₁ (begun .puts six bytes₀) z (record { is = λ h. rw (told, z) (used-stops _ p (used .1)) }))
+        | no ne ↦
+            elim (ℕ-discrete kind 6) [
+              | yes six ↦ as-put six (record { is = λ h. rw told (put-stops _ _ _ (begun .puts six bytes₀) ne) })
+              | no n ↦ absurd (ne (begun .none n .1))
+            ]
       ]
 
-  -- the put was not, or there was none
-  pub slept-go : {bytes words : List ℕ} {r : Reply} → code ≡ 0 → Rests (ltb kind 8) first bytes₀ words₁ p bytes words r → LetsSleep kind first bytes₀ words₀ p bytes words r
-  slept-go {bytes} {words} {r} z on =
+  -- it goes on, and so do the kinds without a put
+  pub slept-go : {bytes words : List ℕ} {r : Reply} → ends kind (stateIn bytes₀ words₁) p code ≡ false
+      → Rests (ltb kind 8) first bytes₀ words₁ p bytes words r → LetsSleep kind first bytes₀ words₀ p bytes words r
+  unfolding stillUsed _and_
+  slept-go {bytes} {words} {r} going on =
+      let free = or-none _ _ going in
       elim (ℕ-discrete kind 6) [
-        | yes e ↦ as-put e (put-goes bytes₀ words₀ words₁ (begun .puts e bytes₀) z (on .idling (lt-ltb kind 8 (omega arith))))
+        | yes six ↦
+            let unused = rw (eq-eqb kind 6 six) at (free .1) in
+            let idles = on .idling (lt-ltb kind 8 (omega arith)) in
+            as-put six (put-goes bytes₀ words₀ words₁ (begun .puts six bytes₀) (eqb-true _ _ (not-fails _ .0 (free .0))) (record { is = λ h. unused-idles _ p unused ∙ idles .is h }))
         | no n ↦
             let same = subst (λ (w : List ℕ). Rests (ltb kind 8) first bytes₀ w p bytes words r) (begun .none n .0) on in
             record { putting = λ e. absurd (n e); idling = λ m l. same .idling (lt-ltb kind 8 l); suspending = λ l. same .suspending (le-ltb kind 8 l) }

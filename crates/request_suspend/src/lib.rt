@@ -1,17 +1,24 @@
 // Kinds 6, 7 and 8, and the results of the idle and suspend callbacks.
 ghost use mathlib.Core.Path.{_≡_};
+ghost use mathlib.Core.List.{List};
+ghost use Prim.Native.Nat.{ℕ};
 ghost use lib.Dec.{ltb};
 ghost use Rattle.model.specs.Logic.{if_then_else_};
 ghost use Rattle.model.specs.Requests.{askSuspend};
 ghost use Rattle.model.specs.Steps.{idleResult, suspendResult};
+ghost use Rattle.memory.specs.Layout.{stateIn};
 ghost use Rattle.request_answer.specs.Promises.{LeadsBy};
 ghost use Rattle.request_suspend.specs.Parts.{passing, settled};
-ghost use Rattle.request_suspend.specs.Sleeps.{PutFirst, LetsSleep};
+ghost use Rattle.request_suspend.specs.Sleeps.{PutFirst, stillUsed, LetsSleep};
+use basics::both;
 use basics::choose;
+use basics::either;
 use links::FIRSTS;
 use memory::BYTES;
 use memory::WORDS;
 use memory::set_callback;
+use memory_rows::holds;
+use memory_rows::linked;
 use memory_rows::set_error;
 use memory_rows::status;
 use model::ACTIVE;
@@ -24,6 +31,7 @@ use request_answer::ask;
 use request_answer::finished;
 use request_answer::magnitude;
 use suspend_test::suspend_test;
+use suspend_test::usage;
 
 // The first of two codes that is not 0; 0 where both are.
 fn first_code(a: u16, b: u16) -> u16
@@ -56,8 +64,18 @@ fn put_first(words: &mut [u32; WORDS], kind: u8, p: u8) -> u16
     0
 }
 
-// Kinds 6, 7 and 8. Kind 6 is a put, and unless that was -75 kind 7 follows. Kinds 7 and 8 make the suspend test and then ask something of
-// the status; idle or suspend follows. One path for the three, since which of them a record has cannot be foreseen.
+// After its put kind 6 goes no further while the device is in use, by a holder or by a powered consumer.
+fn still_used<'a>(words: &'a [u32; WORDS], kind: u8, p: u8) -> bool
+    ensures { λ r. ⌜ ((bytes : List ℕ) → r ≡ stillUsed kind (stateIn bytes (now (words .entry))) p) ⌝ }
+{
+    let held = holds(words, p);
+    let supplied = linked(words, p);
+    both(kind == 6, 0 < usage(held, supplied))
+}
+
+// Kinds 6, 7 and 8. Kind 6 is a put, and kind 7 follows unless the put was -75 or the device is still in use: both are answered with the
+// put's code. Kinds 7 and 8 make the suspend test and then ask something of the status; idle or suspend follows. One path for the three,
+// since which of them a record has cannot be foreseen.
 pub fn let_sleep<'a>(
     bytes: &mut [u8; BYTES],
     words: &mut [u32; WORDS],
@@ -68,7 +86,7 @@ pub fn let_sleep<'a>(
     ensures { λ r. ⌜ LetsSleep kind (now (first .entry)) (now (bytes .entry)) (now (words .entry)) p (now (bytes .exit)) (now (words .exit)) r ⌝ }
 {
     let put = put_first(words, kind, p);
-    if put != 0 {
+    if either(put != 0, still_used(words, kind, p)) {
         return finished(p, put);
     }
     let awake = choose(status(bytes, p) == ACTIVE, 0, EAGAIN);

@@ -6,7 +6,7 @@ use Prim.Native.Nat.{ℕ, _<_}
 use native.Mathlib.Omega.{arith}
 use native.Mathlib.Decide.{decLt}
 use lib.Dec.{eqb, ltb}
-use Rattle.model.specs.Limits.{EAGAIN, EBUSY, EINVAL, minus}
+use Rattle.model.specs.Limits.{EACCES, EBUSY, EINVAL, minus}
 use Rattle.model.specs.Logic.{if_then_else_}
 use Rattle.model.specs.State.{State, SUSPENDED, ACTIVE, statusAt, errorAt, depthAt, withStatus, withCallback, withError}
 use Rattle.model.specs.WakeSet.{lowest}
@@ -41,7 +41,7 @@ module _ (s : State) (p : ℕ) where
   unfolding wake if_then_else_
   wake-error y = rw y
 
-  pub wake-disabled : ltb 0 (errorAt s p) ≡ false → ltb 0 (depthAt s p) ≡ true → wake s p ≡ finished s p (minus EAGAIN)
+  pub wake-disabled : ltb 0 (errorAt s p) ≡ false → ltb 0 (depthAt s p) ≡ true → wake s p ≡ finished s p (minus EACCES)
   unfolding wake if_then_else_
   wake-disabled n y = rw (n, y)
 

@@ -15,7 +15,7 @@ use memory_rows::set_error;
 use memory_rows::set_status_cell;
 use memory_rows::status;
 use model::ACTIVE;
-use model::EAGAIN;
+use model::EACCES;
 use model::EBUSY;
 use model::EINVAL;
 use model::RESUMING;
@@ -49,7 +49,7 @@ pub fn wake<'a>(
         return finished(p, EINVAL);
     }
     if 0 < depth(bytes, p) {
-        return finished(p, EAGAIN);
+        return finished(p, EACCES);
     }
     if status(bytes, p) == ACTIVE {
         return finished(p, 1);

@@ -15,6 +15,7 @@ use memory_rows::error;
 use memory_rows::holds;
 use memory_rows::ignore;
 use memory_rows::linked;
+use model::EACCES;
 use model::EAGAIN;
 use model::EBUSY;
 use model::EINVAL;
@@ -40,6 +41,6 @@ pub fn suspend_test<'a>(bytes: &'a [u8; BYTES], words: &'a [u32; WORDS], p: u8) 
 {
     let needed = choose(has_children(bytes, p), EBUSY, 0);
     let used = choose(0 < usage(holds(words, p), linked(words, p)), EAGAIN, needed);
-    let off = choose(0 < depth(bytes, p), EAGAIN, used);
+    let off = choose(0 < depth(bytes, p), EACCES, used);
     choose(0 < error(words, p), EINVAL, off)
 }

@@ -1,7 +1,7 @@
-//! How often each answer was met, beside the answers that document 01 gives to each kind of record.
+//! How often each answer was met, beside the answers that document 01, with request Three, gives to each kind of record.
 
 use second::{
-    Bench, FINISHED, IDLE_CALLBACK, MAX_HOLDS, NO_CALLBACK, REFUSED, RESUME_CALLBACK,
+    Bench, FINISHED, IDLE_CALLBACK, MAX_HOLDS, NO_CALLBACK, REFUSED, RESUME_CALLBACK, SUSPENDED,
     SUSPEND_CALLBACK,
 };
 
@@ -9,10 +9,11 @@ use second::{
 pub const ENOUGH: u64 = 200;
 
 /// The classes of answers: finished with a code, asks, refusals by their number.
-const CLASSES: [&str; 17] = [
+const CLASSES: [&str; 18] = [
     "0",
     "1",
     "-11",
+    "-13",
     "-16",
     "-22",
     "-75",
@@ -30,7 +31,10 @@ const CLASSES: [&str; 17] = [
 ];
 
 /// The codes of the first classes.
-const CODES: [i16; 7] = [0, 1, -11, -16, -22, -75, -115];
+const CODES: [i16; 8] = [0, 1, -11, -13, -16, -22, -75, -115];
+
+/// The class of refusal 11; those of 12 to 15 follow it.
+const REFUSALS: usize = CODES.len() + 4;
 
 /// Document 01: the answers to each kind; for results by the callback that is
 /// open, and for resume by whether the device asked is the one requested.
@@ -39,38 +43,43 @@ const GIVEN: [(&str, &[&str]); 18] = [
     ("kind 1", &["0", "-75"]),
     ("kind 2", &["0", "-75"]),
     ("kind 3", &["0", "-75"]),
-    ("kind 4", &["1", "-11", "-16", "-22", "-75", "ask 2"]),
+    ("kind 4", &["1", "-13", "-16", "-22", "-75", "ask 2"]),
     ("kind 5", &["0", "-75"]),
-    ("kind 6", &["-11", "-16", "-22", "-75", "ask 3"]),
-    ("kind 7", &["-11", "-16", "-22", "ask 3"]),
-    ("kind 8", &["1", "-11", "-16", "-22", "ask 1"]),
-    ("kind 9", &["1", "-11", "-16", "-22", "ask 2"]),
+    ("kind 6", &["0", "-11", "-13", "-16", "-22", "-75", "ask 3"]),
+    ("kind 7", &["-11", "-13", "-16", "-22", "ask 3"]),
+    ("kind 8", &["1", "-11", "-13", "-16", "-22", "ask 1"]),
+    ("kind 9", &["1", "-13", "-16", "-22", "ask 2"]),
     ("kind 10", &["0", "-11", "-16"]),
     ("kind 11", &["0", "-11", "-16"]),
     ("kind 12", &["0", "-16"]),
     ("kind 13 none open", &["refused 14"]),
     (
         "kind 13 suspend",
-        &["0", "-11", "-16", "-22", "-75", "-115", "other"],
+        &["0", "-11", "-13", "-16", "-22", "-75", "-115", "other"],
     ),
     (
         "kind 13 resume",
-        &["0", "-11", "-16", "-22", "-75", "-115", "other"],
+        &["0", "-11", "-13", "-16", "-22", "-75", "-115", "other"],
     ),
     ("kind 13 resume for another", &["-16", "ask 2"]),
     (
         "kind 13 idle",
-        &["-11", "-16", "-22", "-75", "-115", "other", "ask 1"],
+        &["-11", "-13", "-16", "-22", "-75", "-115", "other", "ask 1"],
     ),
 ];
 
 /// Document 01: well-formed records but results are answered so while a callback is open.
 const BUSY: &str = "-115";
 
+/// What a device may be whose put and idle ends with 0.
+const SPARED: [&str; 5] = ["held", "linked alone", "asleep", "disabled", "failed"];
+
 /// The counts.
 #[derive(Default)]
 pub struct Tally {
     answers: [[u64; CLASSES.len()]; GIVEN.len()],
+    /// Puts with idle that ended with 0, by what the device was.
+    spared: [u64; SPARED.len()],
     /// Suspend tests of a device with a use count beyond the most holds.
     beyond: u64,
     /// The greatest use count of a device that a suspend test was asked of.
@@ -88,6 +97,19 @@ impl Tally {
             self.most_used = self.most_used.max(usage);
             self.beyond += u64::from(usage > MAX_HOLDS.into());
         }
+        if kind == 6 && class(reply) == 0 {
+            let device = usize::from(device);
+            let is = [
+                before.holds[device] > 1,
+                before.holds[device] == 1,
+                before.status[device] == SUSPENDED,
+                before.depth[device] > 0,
+                before.error[device] > 0,
+            ];
+            for (count, is) in self.spared.iter_mut().zip(is) {
+                *count += u64::from(is);
+            }
+        }
     }
 
     /// Every answer that document 01 gives was met, if there were enough benches, and no other.
@@ -101,6 +123,9 @@ impl Tally {
                     _ => {}
                 }
             }
+        }
+        if let (ENOUGH.., Some(never)) = (benches, self.spared.iter().position(|&n| n == 0)) {
+            return Err(format!("kind 6, 0, {}: never met", SPARED[never]));
         }
         if benches >= ENOUGH && self.beyond == 0 {
             return Err(format!("use count beyond {MAX_HOLDS}: never met"));
@@ -119,7 +144,10 @@ impl Tally {
             "{records} records, greatest use count {}, beyond {MAX_HOLDS}: {}",
             self.most_used, self.beyond
         );
-        for (class, name) in CLASSES.iter().enumerate().take(16).skip(11) {
+        for (name, count) in SPARED.iter().zip(self.spared) {
+            line += &format!(", put and idle of a device {name}: {count}");
+        }
+        for (class, name) in CLASSES.iter().enumerate().skip(REFUSALS).take(5) {
             let count: u64 = self.answers.iter().map(|counts| counts[class]).sum();
             line += &format!(", {name}: {count}");
         }
@@ -156,7 +184,7 @@ fn class(reply: [u8; 4]) -> usize {
             class.unwrap_or(CODES.len())
         }
         (1..=3, 0) => CODES.len() + usize::from(kind),
-        (REFUSED, number @ 11..=15) => number as usize,
+        (REFUSED, number @ 11..=15) => REFUSALS + number as usize - 11,
         _ => CLASSES.len() - 1,
     }
 }

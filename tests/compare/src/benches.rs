@@ -113,7 +113,9 @@ pub fn same(bench: &Bench, device: u8) -> Result<u64, String> {
     }
     let recursion = listed(&memory.wake_recursion(device));
     if recursion != expected {
-        return Err(format!("wake set by recursion {recursion:?}, not {expected:?}"));
+        return Err(format!(
+            "wake set by recursion {recursion:?}, not {expected:?}"
+        ));
     }
     let lowest = memory.lowest(device);
     let expected = right.lowest().unwrap_or(bench.n.into());

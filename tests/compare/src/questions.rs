@@ -115,7 +115,7 @@ impl Pair {
                 let value = if kind < FIRST_WITH_VALUE {
                     0
                 } else {
-                    random.one_of(&[0, 0, 1, 2, -1, -5, -11, -16, -4_095, -4_096, 256])
+                    random.one_of(&[0, 0, 1, 2, -1, -5, -11, -13, -16, -4_095, -4_096, 256])
                 };
                 self.method(tally, write(kind, device, value))?;
             }

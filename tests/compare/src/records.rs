@@ -195,7 +195,7 @@ fn failing(random: &mut Random, bench: &Bench) -> [u8; 4] {
     let value = match random.below(12) {
         0..=2 => 0,
         3 => -(random.from_to(1, 4_095) as i16),
-        _ => random.one_of(&[-11, -16, -5, -22, -75, -115, -1, -4_095]),
+        _ => random.one_of(&[-11, -13, -16, -5, -22, -75, -115, -1, -4_095]),
     };
     match random.below(20) {
         0 => write(13, random.byte(), value),

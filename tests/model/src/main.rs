@@ -12,7 +12,7 @@ const USES: &[(&str, &[&str])] = &[
     ("State", &["isChild", "isLive", "childCount", "linkCount", "childrenOf", "linkedOf", "atRest", "loaded", "emptyState", "loadOf"]),
     ("WakeSet", &["marksChild", "marksConsumer", "belongs", "sweep", "wakeMarks", "inWake", "lowest"]),
     ("Records", &["kinds", "allowed", "fault"]),
-    ("Requests", &["enable", "disable", "get", "put", "suspendTest", "askSuspend", "idle", "suspend", "barred", "othersBarred", "askResume", "wake", "getWake", "putIdle", "running", "parentDown", "supplierDown", "setActive", "needed", "setSuspended", "ignoreChildren"]),
+    ("Requests", &["enable", "disable", "get", "put", "suspendTest", "askSuspend", "idle", "suspend", "barred", "othersBarred", "askResume", "wake", "getWake", "idleUnused", "putIdle", "running", "parentDown", "supplierDown", "setActive", "needed", "setSuspended", "ignoreChildren"]),
     ("Steps", &["idleResult", "suspendResult", "goOn", "resumeResult", "result", "request", "resultStep", "busy", "recordStep", "byteStep", "run", "repliesIn"]),
     ("SoundTest", &["columnTest", "tableTest", "sameTest", "parentSupplies", "linkSupplies", "supplyTest", "keptTest", "carriedTest", "steadyTest", "allSteady", "othersSteady", "membersClear", "noneTest", "suspendOpenTest", "resumeOpenTest", "idleOpenTest", "callbackTest", "soundTest"]),
     ("Feed", &["pieceAnswer", "feedAnswer", "feedOf"]),

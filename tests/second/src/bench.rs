@@ -42,6 +42,7 @@ pub const IDLE_CALLBACK: u8 = 3;
 
 /// Error codes, as Linux numbers them.
 pub const EAGAIN: i16 = 11;
+pub const EACCES: i16 = 13;
 pub const EBUSY: i16 = 16;
 pub const EINVAL: i16 = 22;
 pub const EOVERFLOW: i16 = 75;

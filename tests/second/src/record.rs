@@ -49,7 +49,9 @@ impl Bench {
     pub(crate) fn suspend_test(&self, device: usize) -> Option<i16> {
         if self.error[device] != 0 {
             Some(-EINVAL)
-        } else if self.depth[device] > 0 || self.usage(device) > 0 {
+        } else if self.depth[device] > 0 {
+            Some(-EACCES)
+        } else if self.usage(device) > 0 {
             Some(-EAGAIN)
         } else if self.children[device] > 0 && self.ignore[device] == 0 {
             Some(-EBUSY)
@@ -241,12 +243,15 @@ impl<'a> Keeper<'a> {
         finished(device, code)
     }
 
-    /// Kind 6, put and idle, whatever the usage count.
+    /// Kind 6, put and idle. A device that is still in use is left alone,
+    /// whatever else is wrong with it.
     fn put_and_idle(&mut self, device: usize) -> [u8; 4] {
-        if self.lower_holds(device) {
-            self.idle(device)
-        } else {
+        if !self.lower_holds(device) {
             finished(device, -EOVERFLOW)
+        } else if self.bench.usage(device) > 0 {
+            finished(device, 0)
+        } else {
+            self.idle(device)
         }
     }
 
@@ -284,7 +289,7 @@ impl<'a> Keeper<'a> {
             return finished(device, -EINVAL);
         }
         if self.bench.depth[device] > 0 {
-            return finished(device, -EAGAIN);
+            return finished(device, -EACCES);
         }
         if self.bench.status[device] == ACTIVE {
             return finished(device, 1);

@@ -155,7 +155,7 @@ fn suspend_busy_is_no_error() {
 
 #[test]
 fn resume_error_is_always_kept() {
-    for value in [-11, -16, -75, -4_095] {
+    for value in [-11, -13, -16, -75, -4_095] {
         let mut bench = lone_bench();
         send(&mut bench, 9, 0, 0);
         finishes(&mut bench, 13, 0, value, value);
@@ -179,7 +179,7 @@ fn member_error_is_answered_for_the_target() {
 #[test]
 fn get_and_wake_keeps_the_hold() {
     let mut bench = day_bench();
-    finishes(&mut bench, 4, 2, 0, -11);
+    finishes(&mut bench, 4, 2, 0, -13);
     assert_eq!(bench.holds[2], 1);
 }
 
@@ -219,7 +219,7 @@ fn codes_come_in_order() {
     let mut bench = awake_bench();
     finishes(&mut bench, 9, 0, 0, 1);
     bench.depth[0] = 1;
-    finishes(&mut bench, 9, 0, 0, -11);
+    finishes(&mut bench, 9, 0, 0, -13);
     bench.error[0] = 1;
     finishes(&mut bench, 9, 0, 0, -22);
     finishes(&mut bench, 7, 0, 0, -22);
@@ -390,7 +390,7 @@ fn suspend_test_comes_in_order() {
     };
     each(&mut bench, -22);
     bench.error[0] = 0;
-    each(&mut bench, -11);
+    each(&mut bench, -13);
     bench.depth[0] = 0;
     each(&mut bench, -11);
     bench.holds[0] = 0;
@@ -417,17 +417,56 @@ fn a_suspended_device_passes_the_test_first() {
 }
 
 #[test]
-fn put_and_idle_whatever_the_use_count() {
-    let mut bench = awake_bench();
+fn put_and_idle_of_a_device_still_in_use() {
+    // By a holder: 0, disabled, failed and asleep too, and over a child.
+    for (error, depth, status) in [
+        (0, 0, ACTIVE),
+        (5, 0, ACTIVE),
+        (0, 1, ACTIVE),
+        (5, 255, ACTIVE),
+        (0, 0, SUSPENDED),
+        (5, 1, SUSPENDED),
+    ] {
+        let mut bench = awake_bench();
+        bench.holds[0] = 2;
+        (bench.error[0], bench.depth[0], bench.status[0]) = (error, depth, status);
+        let mut after = bench.clone();
+        after.holds[0] = 1;
+        finishes(&mut bench, 6, 0, 0, 0);
+        assert_eq!(bench, after);
+    }
+    let mut bench = running_bench();
     bench.holds[0] = 2;
-    finishes(&mut bench, 6, 0, 0, -11);
-    assert_eq!(bench.holds[0], 1);
+    finishes(&mut bench, 6, 0, 0, 0);
+    // By a powered consumer alone: 0 too, and the hold is given back.
+    for (error, depth) in [(0, 0), (5, 0), (0, 1)] {
+        let mut bench = running_bench();
+        bench.holds[1] = 1;
+        (bench.error[1], bench.depth[1]) = (error, depth);
+        finishes(&mut bench, 6, 1, 0, 0);
+        assert_eq!((bench.holds[1], bench.usage(1)), (0, 1));
+    }
+}
+
+#[test]
+fn put_and_idle_with_the_last_use_gone() {
+    let mut bench = awake_bench();
+    bench.holds[0] = 1;
     assert_eq!(send(&mut bench, 6, 0, 0), [3, 0, 0, 0]);
     assert_eq!((bench.holds[0], bench.status[0]), (0, ACTIVE));
-    let mut bench = awake_bench();
-    (bench.holds[0], bench.error[0]) = (1, 5);
-    finishes(&mut bench, 6, 0, 0, -22);
-    assert_eq!(bench.holds[0], 0);
+    // All of kind 7 follows: -22, -13, -16, and -11 for a device not active.
+    for (error, depth, status, code) in [
+        (5, 1, ACTIVE, -22),
+        (0, 1, ACTIVE, -13),
+        (0, 0, SUSPENDED, -11),
+        (0, 1, SUSPENDED, -13),
+    ] {
+        let mut bench = awake_bench();
+        bench.holds[0] = 1;
+        (bench.error[0], bench.depth[0], bench.status[0]) = (error, depth, status);
+        finishes(&mut bench, 6, 0, 0, code);
+        assert_eq!(bench.holds[0], 0);
+    }
     let mut bench = running_bench();
     bench.holds[0] = 1;
     finishes(&mut bench, 6, 0, 0, -16);
@@ -436,7 +475,7 @@ fn put_and_idle_whatever_the_use_count() {
 
 #[test]
 fn idle_results() {
-    for value in [-1, -5, -11, -16, -75, -4_095] {
+    for value in [-1, -5, -11, -13, -16, -75, -4_095] {
         let mut bench = awake_bench();
         let before = bench.clone();
         assert_eq!(send(&mut bench, 7, 0, 0), [3, 0, 0, 0]);
@@ -453,7 +492,7 @@ fn idle_results() {
 
 #[test]
 fn any_other_suspend_result_is_an_error() {
-    for value in [-1, -22, -75, -115, -4_095] {
+    for value in [-1, -13, -22, -75, -115, -4_095] {
         let mut bench = awake_bench();
         send(&mut bench, 8, 0, 0);
         finishes(&mut bench, 13, 0, value, value);
@@ -489,12 +528,12 @@ fn counts_follow_the_resume_result() {
 
 #[test]
 fn the_hold_stays_whatever_follows() {
-    // -22, -11, -16, 1 and a failed callback.
+    // -22, -13, -16, 1 and a failed callback.
     let mut bench = day_bench();
     bench.error[2] = 5;
     finishes(&mut bench, 4, 2, 0, -22);
     bench.error[2] = 0;
-    finishes(&mut bench, 4, 2, 0, -11);
+    finishes(&mut bench, 4, 2, 0, -13);
     finishes(&mut bench, 1, 2, 0, 0);
     finishes(&mut bench, 4, 2, 0, -16);
     assert_eq!(bench.holds[2], 3);
@@ -616,7 +655,7 @@ fn greatest_use_counts() {
     assert_eq!(bench.usage_count(0), Ok(32_830));
     finishes(&mut bench, 7, 0, 0, -11);
     finishes(&mut bench, 8, 0, 0, -11);
-    finishes(&mut bench, 6, 0, 0, -11);
+    finishes(&mut bench, 6, 0, 0, 0);
     assert_eq!(bench.usage_count(0), Ok(32_829));
     // The stored counts alone, up to the greatest m.
     bench.holds[0] = 32_767;

@@ -176,7 +176,7 @@ fn answer(random: &mut Random) -> i16 {
         15 => -EAGAIN,
         16 => -EBUSY,
         17 => -5,
-        18 => random.one_of(&[-1, -22, -75, -115, -4_095]),
+        18 => random.one_of(&[-1, -13, -22, -75, -115, -4_095]),
         _ => -(random.from_to(1, 4_095) as i16),
     }
 }

@@ -70,7 +70,7 @@ fn label(before: &Bench, kind: u8) -> String {
 /// The code; the many values of results are put together.
 fn code_name(kind: u8, code: i16) -> String {
     match code {
-        0 | 1 | -5 | -11 | -16 | -22 | -75 | -115 => format!("finished {code}"),
+        0 | 1 | -5 | -11 | -13 | -16 | -22 | -75 | -115 => format!("finished {code}"),
         _ if kind == 13 => "finished other".to_string(),
         _ => format!("finished {code} (not expected)"),
     }
