@@ -31,7 +31,7 @@ MAXERROR = 4095
 abbrev pub MAXPIECE : ℕ
 MAXPIECE = 4096
 
--- "Error codes are Linux's": their magnitudes
+-- "Error codes are Linux's": their magnitudes; 13 comes with request Three
 abbrev pub EAGAIN : ℕ
 EAGAIN = 11
 

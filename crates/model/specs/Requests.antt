@@ -1,5 +1,6 @@
 -- "Records and their replies": the requests, kinds 1 to 12, in the table's order, after what several of them share. Each is finished with
--- 0 where nothing else is said; "house" marks a rule that is document 01's own. Assumes nothing.
+-- 0 where nothing else is said; "house" marks a rule that is document 01's own, "request Three" one that document 02 has changed. Assumes
+-- nothing.
 use mathlib.Core.Bool.{Bool, not}
 use Prim.Native.Nat.{ℕ, _+_, _-_, _%_}
 use lib.ListN.{getD}

@@ -137,10 +137,10 @@ unfolding idleUnused if_then_else_
 unused-idles s p e = rw e
 
 -- the device is in use: the sum of the two counts that are read
-pub used-by : (kind p : ℕ) {held supplied uses : ℕ} {r : Bool} (s : State) → held ≡ holdsAt s p → supplied ≡ linkedAt s p → uses ≡ held + supplied
+pub used-by : (kind p : ℕ) {held consumers uses : ℕ} {r : Bool} (s : State) → held ≡ holdsAt s p → consumers ≡ linkedAt s p → uses ≡ held + consumers
     → r ≡ eqb kind 6 and ltb 0 uses → r ≡ stillUsed kind s p
 unfolding stillUsed
-used-by kind p s h l sum both = rw (both, sum, h, l)
+used-by kind p s h c sum both = rw (both, sum, h, c)
 
 -- kind 6 goes no further: the put was -75, or the device is in use
 abbrev pub ends : ℕ → State → ℕ → ℕ → Bool

@@ -69,8 +69,8 @@ fn still_used<'a>(words: &'a [u32; WORDS], kind: u8, p: u8) -> bool
     ensures { λ r. ⌜ ((bytes : List ℕ) → r ≡ stillUsed kind (stateIn bytes (now (words .entry))) p) ⌝ }
 {
     let held = holds(words, p);
-    let supplied = linked(words, p);
-    both(kind == 6, 0 < usage(held, supplied))
+    let consumers = linked(words, p);
+    both(kind == 6, 0 < usage(held, consumers))
 }
 
 // Kinds 6, 7 and 8. Kind 6 is a put, and kind 7 follows unless the put was -75 or the device is still in use: both are answered with the

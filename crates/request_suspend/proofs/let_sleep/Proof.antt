@@ -1,5 +1,5 @@
--- Kind 6's put is -75 and ends the request; else the code chosen is 0 only where every test of the kind passed, and otherwise it is the
--- first that did not. Assumes nothing.
+-- Kind 6's put was -75 or left the device in use, and ends the request; else the code chosen is 0 only where every test of the kind
+-- passed, and otherwise it is that of the first that did not. Assumes nothing.
 use mathlib.Core.Path.{_≡_, refl, sym, _∙_}
 use mathlib.Core.List.{List}
 use Prim.Native.Nat.{ℕ}

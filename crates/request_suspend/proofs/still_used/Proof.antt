@@ -8,8 +8,8 @@ returns : tie.Need-returns
 returns c =
     λ bytes.
     let counted = c .before in
-    let supplied = counted .before in
-    used-by _ _ _ (supplied .before .holds .ensures bytes) (supplied .linked .ensures bytes) (counted .usage .ensures) (c .both .ensures)
+    let read = counted .before in
+    used-by _ _ _ (read .before .holds .ensures bytes) (read .linked .ensures bytes) (counted .usage .ensures) (c .both .ensures)
 
 pub still-used-spec : {M : Type 1} → statement M
 still-used-spec = tie.close (tie.spec (λ c κs. search needs) (λ c κs. search needs) (λ c κs. search needs) (λ c κs. search needs) returns)
