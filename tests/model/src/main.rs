@@ -1,26 +1,20 @@
-//! Reads the cases that the second implementation writes, and writes them as claims about the definitions of `crates/model/specs`,
-//! each to be proved by computation. A case that the definitions answer otherwise is refused by its line number.
+//! claims SPECS: reads the cases that the second implementation writes, and writes them as claims about the definitions of the folder
+//! SPECS, each to be proved by computation. A case that the definitions answer otherwise is refused by its line number.
 
 use std::fmt::Write as _;
 use std::io::{self, BufRead, Write};
+use std::path::PathBuf;
+use std::{env, fs};
 
-/// The claims' imports and helpers: each definition that has to compute is named twice, to be brought in and to be unfolded.
-const USES: &[(&str, &[&str])] = &[
-    ("Limits", &["DEVICES", "LINKS", "ROWS"]),
-    ("Logic", &["if_then_else_", "_and_", "_or_", "_implies_", "any", "all", "first", "count", "tally", "column"]),
-    ("Table", &["markGood", "versionGood", "limitsGood", "lengthGood", "parentGood", "endsGood", "before", "deviceGood", "linkFits", "ascends", "linkGood", "badDevice", "badLink", "entriesAnswer", "tableAnswer", "cell", "padded", "wiringIn"]),
-    ("State", &["isChild", "isLive", "childCount", "linkCount", "childrenOf", "linkedOf", "atRest", "loaded", "emptyState", "loadOf"]),
-    ("WakeSet", &["marksChild", "marksConsumer", "belongs", "sweep", "wakeMarks", "inWake", "lowest"]),
-    ("Records", &["kinds", "allowed", "fault"]),
-    ("Requests", &["enable", "disable", "get", "put", "suspendTest", "askSuspend", "idle", "suspend", "barred", "othersBarred", "askResume", "wake", "getWake", "idleUnused", "putIdle", "running", "parentDown", "supplierDown", "setActive", "needed", "setSuspended", "ignoreChildren"]),
-    ("Steps", &["idleResult", "suspendResult", "goOn", "resumeResult", "result", "request", "resultStep", "busy", "recordStep", "byteStep", "run", "repliesIn"]),
-    ("SoundTest", &["columnTest", "tableTest", "sameTest", "parentSupplies", "linkSupplies", "supplyTest", "keptTest", "carriedTest", "steadyTest", "allSteady", "othersSteady", "membersClear", "noneTest", "suspendOpenTest", "resumeOpenTest", "idleOpenTest", "callbackTest", "soundTest"]),
-    ("Feed", &["pieceAnswer", "feedAnswer", "feedOf"]),
-    ("Questions", &["told", "climb", "parentsAbove"]),
-    ("Methods", &["requested"]),
-    ("Demand3", &["effective", "counted"]),
-    ("Writing", &["devicesGiven", "linksGiven", "countsGood", "deviceFits", "linkWhole", "pair", "repeats", "linkTaken", "faultyDevice", "faultyLink", "number", "lower", "least", "inOrder", "fieldOf", "linkByteAt", "sortedLinks", "tableOf", "listsAnswer", "writeOf"]),
+/// The files of the definitions that have to compute.
+const FILES: [&str; 14] = [
+    "Limits", "Logic", "Table", "State", "WakeSet", "Records", "Requests", "Steps", "SoundTest", "Feed", "Questions", "Methods", "Demand3", "Writing",
 ];
+
+/// The definitions of a file that unfold only where they are named: a claim brings them in and unfolds them.
+fn definitions(text: &str) -> Vec<&str> {
+    text.lines().filter_map(|line| line.strip_prefix("unfoldable pub ")?.split(' ').next()).collect()
+}
 
 /// How many words a state has.
 const STATE_WORDS: usize = 18;
@@ -126,7 +120,7 @@ fn claim(line: &str) -> String {
     }
 }
 
-fn header() -> String {
+fn header(texts: &[(&str, String)]) -> String {
     let mut text = String::from(concat!(
         "-- Cases of the second implementation, as claims about the definitions. Assumes nothing.\n",
         "use mathlib.Core.Path.{_≡_, refl}\n",
@@ -138,8 +132,9 @@ fn header() -> String {
         "use Rattle.model.specs.Questions.{Told, tellStatus, tellHolds, tellUsage, tellChildren, tellWake, tellAbove}\n",
         "use Rattle.model.specs.Demand3.{isGet, isPut}\n",
     ));
-    for (module, names) in USES {
-        writeln!(text, "use Rattle.model.specs.{module}.{{{}}}", names.join(", ")).expect("a string takes it");
+    for (file, definition) in texts {
+        let names = definitions(definition).join(", ");
+        writeln!(text, "use Rattle.model.specs.{file}.{{{names}}}").expect("a string takes it");
     }
     text + concat!(
         "\npad : ℕ → List ℕ → List ℕ\npad zero l = []\npad (suc n) [] = 0 ∷ pad n []\npad (suc n) (a ∷ l) = a ∷ pad n l\n",
@@ -159,10 +154,15 @@ fn header() -> String {
 }
 
 fn main() -> io::Result<()> {
-    let unfolding: Vec<&str> = USES.iter().flat_map(|(_, names)| names.iter().copied()).collect();
+    let folder = PathBuf::from(env::args_os().nth(1).expect("usage: claims SPECS"));
+    let mut texts = Vec::new();
+    for file in FILES {
+        texts.push((file, fs::read_to_string(folder.join(file).with_extension("antt"))?));
+    }
+    let unfolding: Vec<&str> = texts.iter().flat_map(|(_, text)| definitions(text)).collect();
     let unfolding = format!("unfolding pad bench outcome counts played asked {}", unfolding.join(" "));
     let mut out = io::BufWriter::new(io::stdout().lock());
-    out.write_all(header().as_bytes())?;
+    out.write_all(header(&texts).as_bytes())?;
     for (at, line) in io::stdin().lock().lines().enumerate() {
         let at = at + 1;
         write!(out, "\nline-{at} : {}\n{unfolding}\nline-{at} = refl\n", claim(&line?))?;
