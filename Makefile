@@ -3,7 +3,7 @@
 # make scripts   the test programs on their scripts, proved, built and run
 # make test      the gate: every check, ending with the toolchain's verdict
 # make sample    the definitions against the second implementation; SEED and COUNT choose the cases
-# make compare   the proved code against the second implementation; SEED, TABLES, WRITES, BENCHES, RECORDS, QUESTIONS and FEEDS choose the cases
+# make compare   the proved code against the second implementation; SEED, TABLES, WRITES, BENCHES, RECORDS, QUESTIONS, SAVES and FEEDS choose the cases
 # make bench     the time of both over one log
 SHELL := /bin/bash
 .SHELLFLAGS := -o pipefail -c
@@ -14,6 +14,7 @@ WRITES ?= 100000
 BENCHES ?= 2000
 RECORDS ?= 30000
 QUESTIONS ?= 600
+SAVES ?= 1000
 FEEDS ?= 100000
 UNPROVED := $(CURDIR)/target/unproved
 # where the toolchain copies what it loads: in memory, where that can be
@@ -63,7 +64,7 @@ test: listed
 	rt ci
 
 built:
-	tests/archives $(UNPROVED) export_cells export_states export_tables export_feed export_bench $(PROGRAMS)
+	tests/archives $(UNPROVED) export_cells export_states export_tables export_feed export_bench export_saved $(PROGRAMS)
 	cd tests/compare && KEEPER_ARCHIVES=$(UNPROVED) cargo build --release --offline --quiet
 	cd host && KEEPER_ARCHIVES=$(UNPROVED) cargo build --release --offline --quiet
 
@@ -81,12 +82,13 @@ sample:
 
 # the proved code, linked with the second implementation
 harness:
-	rt check keeper keeper_questions wakeset counts
+	rt check keeper keeper_questions wakeset counts saved
 	rt staticlib export_cells
 	rt staticlib export_states
 	rt staticlib export_tables
 	rt staticlib export_feed
 	rt staticlib export_bench
+	rt staticlib export_saved
 	cd tests/compare && cargo build --release --offline --quiet
 
 compare:
@@ -94,7 +96,7 @@ compare:
 	$(MAKE) states
 	$(MAKE) feeds
 
-# tables, lists for the writer, benches, single records, questions and methods
+# tables, lists for the writer, benches, single records, questions and methods, saved states
 states:
 	tests/compare/target/release/compare tables $(SEED) $(TABLES)
 	tests/compare/target/release/compare writer $(SEED) $(WRITES)
@@ -102,6 +104,7 @@ states:
 	tests/compare/target/release/compare unordered $(SEED) $(BENCHES)
 	tests/compare/target/release/compare records $(SEED) $(RECORDS)
 	tests/compare/target/release/compare questions $(SEED) $(QUESTIONS)
+	tests/compare/target/release/compare saved $(SEED) $(SAVES)
 
 # logs in pieces
 feeds:

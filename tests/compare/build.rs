@@ -1,6 +1,6 @@
 //! Links the keeper: the archives of `export_cells`, `export_states`, `export_tables`,
-//! `export_feed` and `export_bench` in `target/staticlib` of the repository, or in the folder that
-//! KEEPER_ARCHIVES names.
+//! `export_feed`, `export_bench` and `export_saved` in `target/staticlib` of the repository, or in
+//! the folder that KEEPER_ARCHIVES names.
 
 use std::env;
 use std::fs;
@@ -19,6 +19,7 @@ fn main() {
         "export_tables",
         "export_feed",
         "export_bench",
+        "export_saved",
     ] {
         link(name, &folder, &out);
     }

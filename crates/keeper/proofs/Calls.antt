@@ -2,21 +2,22 @@
 use mathlib.Core.Path.{_≡_, refl, sym, ap, _∙_}
 use mathlib.Core.List.{List, [], _∷_, map}
 use Prim.Native.Nat.{ℕ, zero, suc}
-use lib.ListN.{length, take}
-use lib.Seq.{take-length}
+use lib.ListN.{take}
 use denote.Ref.{now}
 use borrow.Fn.World as World
 use contract.Lifetimes.{Lfts}
 use denote.Triple.Clauses as Clauses
 use borrow.Fn.Kinds as Ends
-use Rattle.model.specs.State.{loadOf}
+use Rattle.model.specs.State.{State, loadOf}
+use Rattle.model.specs.Sound.{Sound}
 use Rattle.model.specs.Feed.{Fed, feedOf}
 use Rattle.model.specs.Demand3.{feedAll, handedBack}
-use Rattle.model.proofs.Pieces.{demand-3}
+use Rattle.model.proofs.Loading.{load-sound, load-holds, load-carry}
+use Rattle.model.proofs.Pieces.{agrees}
 use Rattle.table.specs.Answers.{answerOf}
 use Rattle.keeper_bench.specs.declared.Bench.{Bench}
 use Rattle.keeper_bench.specs.Translate.{stateOf}
-use Rattle.keeper.specs.Calls.{LoadCall, FeedCall, gave, pieces, Linked, last, LoadMet, AllMet, Agreed}
+use Rattle.keeper.specs.Calls.{LoadCall, FeedCall, gave, pieces, Linked, last, LoadMet, AllMet, Agreed, AgreedFrom}
 use Rattle.keeper.proofs.load
 use Rattle.keeper.proofs.load.Kinds as load-kinds
 use Rattle.keeper.proofs.load.Reads as load-reads
@@ -25,7 +26,7 @@ use Rattle.keeper.proofs.feed.Kinds as feed-kinds
 use Rattle.keeper.proofs.feed.Reads as feed-reads
 
 -- ---- lists of calls that meet the contract
-fed : (b : Bench) (cs : List FeedCall) → Linked b cs → AllMet cs → map gave cs ≡ feedAll (stateOf b) (pieces cs)
+pub fed : (b : Bench) (cs : List FeedCall) → Linked b cs → AllMet cs → map gave cs ≡ feedAll (stateOf b) (pieces cs)
 unfolding Linked AllMet feedAll
 fed b [] l m = refl
 fed b (c ∷ cs) l m =
@@ -54,19 +55,29 @@ first-met cs zero m = tt
 first-met [] (suc k) m = tt
 first-met (c ∷ cs) (suc k) m = (m .0, first-met cs k (m .1))
 
-pub agreed : (l : LoadCall) → LoadMet l → answerOf (l .result .answer) .number ≡ 0 → (cs : List FeedCall) → Linked (l .result .bench) cs → AllMet cs → Agreed (l .table) (l .result .bench) cs
-agreed l h e cs i m =
-    let b = l .result .bench in
-    let z : stateOf b ≡ loadOf (l .table) .state = ap (λ x. x .state) h in
-    let g = rw (take-length (pieces cs)) at (demand-3 (l .table) (pieces cs) (sym (ap (λ x. x .answer .number) h) ∙ e) (length (pieces cs))) in
-    let f : map gave cs ≡ feedAll (loadOf (l .table) .state) (pieces cs) = rw z at (fed b cs i m) in
-    let y : handedBack (loadOf (l .table) .state) (feedAll (loadOf (l .table) .state) (pieces cs)) ≡ stateOf (last b cs) = rw (f, z) at (left b cs) in
+-- from any sound state: calls that gave what the model gives, one after another
+pub agreed-by : (s z : State) (cs : List FeedCall) → Sound s → map gave cs ≡ feedAll s (pieces cs) → handedBack s (map gave cs) ≡ z → Agreed s z cs
+agreed-by s z cs h f e =
+    let g = agrees s (pieces cs) h in
+    let y : handedBack s (feedAll s (pieces cs)) ≡ z = rw f at e in
     record {
       refused = sym (numbers cs) ∙ (rw (← f) at (g .refused));
       replies = rw f (g .replies);
       state = sym y ∙ g .state;
       supply = rw y at (g .supply);
       uses = rw y at (g .uses);
+    }
+
+-- from the bench of a table
+pub agreed : (l : LoadCall) → LoadMet l → answerOf (l .result .answer) .number ≡ 0 → (cs : List FeedCall) → Linked (l .result .bench) cs → AllMet cs
+    → AgreedFrom (l .table) (l .result .bench) cs
+agreed l h e cs i m =
+    let b = l .result .bench in
+    let z : stateOf b ≡ loadOf (l .table) .state = ap (λ x. x .state) h in
+    let taken = sym (ap (λ x. x .answer .number) h) ∙ e in
+    record {
+      fresh = record { carried = load-carry (l .table) taken; holds = load-holds (l .table) taken };
+      agreed = agreed-by (loadOf (l .table) .state) _ cs (load-sound (l .table) taken) (rw z at (fed b cs i m)) (rw z at (left b cs));
     }
 
 -- ---- calls as the check of a caller reads them: the arguments, the result, what lent places hold at the end, and what is learnt from the
@@ -108,7 +119,7 @@ all-met (r ∷ rs) = (r .learnt, all-met rs)
 pub demand-3-calls :
     (l : LoadRead) → answerOf (loadCall l .result .answer) .number ≡ 0
     → (rs : List FeedRead) → Linked (loadCall l .result .bench) (feedCalls rs)
-    → (k : ℕ) → Agreed (loadCall l .table) (loadCall l .result .bench) (take k (feedCalls rs))
+    → (k : ℕ) → AgreedFrom (loadCall l .table) (loadCall l .result .bench) (take k (feedCalls rs))
 demand-3-calls l e rs i k =
     let cs = feedCalls rs in
     let b = loadCall l .result .bench in

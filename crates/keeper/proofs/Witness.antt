@@ -27,7 +27,7 @@ use Rattle.record_answer.specs.Answers.{numberOf, repliesOf}
 use Rattle.keeper_bench.specs.declared.Bench.{Bench}
 use Rattle.keeper_bench.specs.Translate.{stateOf, benchOf}
 use Rattle.keeper_bench.proofs.Translations.{sound-back-and-there}
-use Rattle.keeper.specs.Calls.{LoadCall, FeedCall, pieces, Linked, LoadMet, FeedMet, Agreed}
+use Rattle.keeper.specs.Calls.{LoadCall, FeedCall, pieces, Linked, LoadMet, FeedMet, AgreedFrom}
 use Rattle.keeper.proofs.Calls.{LoadRead, FeedRead, loadCall, feedCall, feedCalls, demand-3-calls}
 
 -- ---- one call of `feed` on a bench of a sound state
@@ -140,8 +140,8 @@ pub loads : loadOf dayTable .answer .number ≡ 0
 loads = ap (λ (a : TableAnswer). a .number) day-loads
 
 pub day-agrees : (ps : List Piece) (k : ℕ) → let c = calls-exist dayTable loads ps in
-    Agreed dayTable (loadCall (c .load) .result .bench) (take k (feedCalls (c .fed .reads)))
+    AgreedFrom dayTable (loadCall (c .load) .result .bench) (take k (feedCalls (c .fed .reads)))
 day-agrees ps k =
     let c = calls-exist dayTable loads ps in
     let fed = take k (feedCalls (c .fed .reads)) in
-    subst (λ (t : List ℕ). Agreed t (loadCall (c .load) .result .bench) fed) (c .given) (demand-3-calls (c .load) (c .taken) (c .fed .reads) (c .fed .linked) k)
+    subst (λ (t : List ℕ). AgreedFrom t (loadCall (c .load) .result .bench) fed) (c .given) (demand-3-calls (c .load) (c .taken) (c .fed .reads) (c .fed .linked) k)

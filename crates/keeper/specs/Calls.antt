@@ -2,11 +2,11 @@
 use mathlib.Core.Path.{_≡_}
 use mathlib.Core.List.{List, [], _∷_, map}
 use Prim.Native.Nat.{ℕ, _<_, _+_}
-use Rattle.model.specs.State.{usage, linkCount, loadOf}
+use Rattle.model.specs.State.{State, holdsAt, usage, linkCount, loadOf}
 use Rattle.model.specs.Steps.{run, repliesIn}
 use Rattle.model.specs.Sound.{Supply}
 use Rattle.model.specs.Feed.{Piece, Fed, feedOf}
-use Rattle.model.specs.Demand3.{joined, refusals, takenBytes, isGet, isPut, counted}
+use Rattle.model.specs.Demand3.{joined, refusals, takenBytes, isGet, isPut, counted, Fresh}
 use Rattle.record_answer.specs.Answers.{numberOf}
 use Rattle.keeper_bench.specs.declared.Bench.{Bench}
 use Rattle.keeper_bench.specs.Translate.{stateOf}
@@ -54,17 +54,21 @@ unfoldable pub AllMet : List FeedCall → Type 0
 AllMet [] = Unit {0}
 AllMet (c ∷ cs) = FeedMet c × AllMet cs
 
--- ---- the claim for the calls cs from bench b, the bench of the table: the plain keeper is fed the table, then the joined bytes of the
--- pieces taken
-pub record Agreed (table : List ℕ) (b : Bench) (cs : List FeedCall) : Type 0 where
+-- ---- the claim for the calls cs from state s to state z: the plain keeper starts from s, and is fed the joined bytes of the pieces taken. From a
+-- table, s is the state just loaded, with nothing carried and no holds
+pub record Agreed (s z : State) (cs : List FeedCall) : Type 0 where
   -- the pieces refused are those over 4,096 bytes or without room
-  pub refused : map (λ (c : FeedCall). numberOf (c .result .answer)) cs ≡ refusals 0 (pieces cs)
-  pub replies : joined (map gave cs) ≡ repliesIn (run (loadOf table .state) (takenBytes 0 (pieces cs)) .log)
+  pub refused : map (λ (c : FeedCall). numberOf (c .result .answer)) cs ≡ refusals (s .carry .used) (pieces cs)
+  pub replies : joined (map gave cs) ≡ repliesIn (run s (takenBytes (s .carry .used) (pieces cs)) .log)
   -- the whole bench, in every field
-  pub state : stateOf (last b cs) ≡ run (loadOf table .state) (takenBytes 0 (pieces cs)) .state
-  pub supply : let z = stateOf (last b cs) in Supply (z .wiring) (z .devices .status)
-  -- use count and counted puts are counted gets and runtime links whose consumer is powered
+  pub state : z ≡ run s (takenBytes (s .carry .used) (pieces cs)) .state
+  pub supply : Supply (z .wiring) (z .devices .status)
+  -- use count and counted puts are the holds at the start, counted gets and runtime links whose consumer is powered
   pub uses :
-      let z = stateOf (last b cs) in
-      let log = run (loadOf table .state) (takenBytes 0 (pieces cs)) .log in
-      (q : ℕ) → q < z .wiring .n → usage z q + counted isPut q log ≡ counted isGet q log + linkCount (z .wiring) (z .devices .status) q
+      let log = run s (takenBytes (s .carry .used) (pieces cs)) .log in
+      (q : ℕ) → q < z .wiring .n → usage z q + counted isPut q log ≡ holdsAt s q + counted isGet q log + linkCount (z .wiring) (z .devices .status) q
+
+-- the same from the bench of a table just loaded, which is fresh: with no bytes carried and no holds the claim is document 01's
+pub record AgreedFrom (table : List ℕ) (b : Bench) (cs : List FeedCall) : Type 0 where
+  pub fresh : Fresh (loadOf table .state)
+  pub agreed : Agreed (loadOf table .state) (stateOf (last b cs)) cs

@@ -1,5 +1,5 @@
 -- Demand 3 at the level of definitions: a list of pieces and the plain keeper. Assumes nothing.
-use mathlib.Core.Path.{_≡_, refl, _∙_, ap, subst}
+use mathlib.Core.Path.{_≡_, refl, _∙_, ap}
 use mathlib.Core.Bool.{Bool, true, false}
 use mathlib.Core.List.{List, [], _∷_, _++_, map}
 use Prim.Native.Nat.{ℕ, _+_, _*_, _%_, _<_, _≤_}
@@ -10,7 +10,7 @@ use lib.Dec.{eqb}
 use borrow.Author.Tests.{ltb-false, eqb-true}
 use Rattle.model.specs.Limits.{ROWS}
 use Rattle.model.specs.Logic.{if_then_else_}
-use Rattle.model.specs.State.{State, holdsAt, loadOf}
+use Rattle.model.specs.State.{State, loadOf}
 use Rattle.model.specs.Records.{replyBytes}
 use Rattle.model.specs.Steps.{Exchange, run, repliesIn}
 use Rattle.model.specs.Sound.{Sound}
@@ -136,12 +136,13 @@ unfolding feedAll handedBack joined refusals takenBytes run repliesIn
 pieces-joined s [] h = record { refused = refl; replies = refl; state = refl }
 pieces-joined s (p ∷ ps) h = joined-more s h p ps (λ t g. pieces-joined t ps g)
 
--- from every sound state with nothing carried and no holds
-agrees : (s : State) (ps : List Piece) → Sound s → s .carry .used ≡ 0 → ((q : ℕ) → holdsAt s q ≡ 0) → Agrees s ps
-agrees s ps h c z =
-    let j = subst (λ (x : ℕ). Joined s x ps) c (pieces-joined s ps h) in
+-- from every sound state
+pub agrees : (s : State) (ps : List Piece) → Sound s → Agrees s ps
+agrees s ps h =
+    let j = pieces-joined s ps h in
     let e = j .state in
-    let g = run-sound s (takenBytes 0 ps) h in
+    let fed = takenBytes (s .carry .used) ps in
+    let g = run-sound s fed h in
     record {
       refused = j .refused;
       replies = j .replies;
@@ -149,12 +150,15 @@ agrees s ps h c z =
       supply = rw e (g .kept .supply);
       uses =
           λ q l.
-          let low : q < ROWS = (let r = room (run s (takenBytes 0 ps) .state) (g .kept) in let y = rw e at l in omega arith) in
-          let k = ap (λ (x : List ℕ). getD x q 0) (g .kept .linked) ∙ at-linked (run s (takenBytes 0 ps) .state .wiring) (run s (takenBytes 0 ps) .state .devices .status) q low in
-          let y = z q in
-          rw e (omega (arith, holds-run s (takenBytes 0 ps) q h, k));
+          let low : q < ROWS = (let r = room (run s fed .state) (g .kept) in let y = rw e at l in omega arith) in
+          let k = ap (λ (x : List ℕ). getD x q 0) (g .kept .linked) ∙ at-linked (run s fed .state .wiring) (run s fed .state .devices .status) q low in
+          rw e (omega (arith, holds-run s fed q h, k));
     }
 
 -- demand 3
-pub demand-3 : (table : List ℕ) (ps : List Piece) → Demand3 table ps
-demand-3 table ps e k = agrees (loadOf table .state) (take k ps) (load-sound table e) (load-carry table e) (load-holds table e)
+pub demand-3 : (table : List ℕ) (ps : List Piece) → loadOf table .answer .number ≡ 0 → Demand3 table ps
+demand-3 table ps e =
+    record {
+      fresh = record { carried = load-carry table e; holds = load-holds table e };
+      agrees = λ k. agrees (loadOf table .state) (take k ps) (load-sound table e);
+    }

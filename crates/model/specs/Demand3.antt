@@ -7,7 +7,7 @@ use lib.ListN.{length, take}
 use lib.Dec.{eqb}
 use Rattle.model.specs.Limits.{EOVERFLOW, EINPROGRESS, minus}
 use Rattle.model.specs.Logic.{if_then_else_, _and_, _or_, bit}
-use Rattle.model.specs.State.{State, usage, linkCount, loadOf}
+use Rattle.model.specs.State.{State, holdsAt, usage, linkCount, loadOf}
 use Rattle.model.specs.Records.{Reply}
 use Rattle.model.specs.Steps.{Exchange, run, repliesIn}
 use Rattle.model.specs.Sound.{Supply}
@@ -60,17 +60,24 @@ unfoldable pub counted : (ℕ → Bool) → ℕ → List Exchange → ℕ
 counted kinds q [] = 0
 counted kinds q (e ∷ es) = bit (eqb (e .asked .device) q and kinds (e .asked .kind) and effective (e .reply)) + counted kinds q es
 
--- ---- the claim for a list of pieces fed from state s, nothing carried: the plain keeper is fed the joined bytes of the pieces taken
+-- ---- the claim for a list of pieces fed from state s, the bench of a table just loaded or, by request Four, of a saved state restored: the
+-- plain keeper is fed the joined bytes of the pieces taken, and "demand 3's sum counts from the saved holds"
 pub record Agrees (s : State) (ps : List Piece) : Type 0 where
-  pub refused : map (λ (f : Fed). f .number) (feedAll s ps) ≡ refusals 0 ps
-  pub replies : joined (feedAll s ps) ≡ repliesIn (run s (takenBytes 0 ps) .log)
-  pub state : handedBack s (feedAll s ps) ≡ run s (takenBytes 0 ps) .state
+  pub refused : map (λ (f : Fed). f .number) (feedAll s ps) ≡ refusals (s .carry .used) ps
+  pub replies : joined (feedAll s ps) ≡ repliesIn (run s (takenBytes (s .carry .used) ps) .log)
+  pub state : handedBack s (feedAll s ps) ≡ run s (takenBytes (s .carry .used) ps) .state
   pub supply : let z = handedBack s (feedAll s ps) in Supply (z .wiring) (z .devices .status)
   pub uses :
       let z = handedBack s (feedAll s ps) in
-      let log = run s (takenBytes 0 ps) .log in
-      (q : ℕ) → q < z .wiring .n → usage z q + counted isPut q log ≡ counted isGet q log + linkCount (z .wiring) (z .devices .status) q
+      let log = run s (takenBytes (s .carry .used) ps) .log in
+      (q : ℕ) → q < z .wiring .n → usage z q + counted isPut q log ≡ holdsAt s q + counted isGet q log + linkCount (z .wiring) (z .devices .status) q
 
--- demand 3: from the bench of a table just loaded, at the start (k = 0) and after each piece
-abbrev pub Demand3 : List ℕ → List Piece → Type 0
-Demand3 table ps = loadOf table .answer .number ≡ 0 → (k : ℕ) → Agrees (loadOf table .state) (take k ps)
+-- nothing is carried and nobody holds a device
+pub record Fresh (s : State) : Type 0 where
+  pub carried : s .carry .used ≡ 0
+  pub holds : (q : ℕ) → holdsAt s q ≡ 0
+
+-- demand 3: from the bench of a table just loaded, which is fresh, at the start (k = 0) and after each piece
+pub record Demand3 (table : List ℕ) (ps : List Piece) : Type 0 where
+  pub fresh : Fresh (loadOf table .state)
+  pub agrees : (k : ℕ) → Agrees (loadOf table .state) (take k ps)

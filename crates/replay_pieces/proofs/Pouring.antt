@@ -11,7 +11,7 @@ use Rattle.model.specs.Feed.{Piece, Fed}
 use Rattle.model.specs.Demand3.{takenBytes}
 use Rattle.keeper_bench.specs.declared.Bench.{Bench}
 use Rattle.keeper_bench.specs.Translate.{stateOf}
-use Rattle.keeper.specs.Calls.{FeedCall, gave, pieces, Linked, last, FeedMet, AllMet, Agreed}
+use Rattle.keeper.specs.Calls.{FeedCall, gave, pieces, Linked, last, FeedMet, AllMet, AgreedFrom}
 use Rattle.keeper.proofs.Calls.{agreed}
 use Rattle.replay_pieces.specs.declared.turn.Progress.{Progress}
 use Rattle.replay_pieces.specs.declared.turn.Turn.{Turn}
@@ -65,10 +65,10 @@ poured-more {b} {p} {piece} {t} {after} h u =
     }
 
 -- demand 3 for what the program fed: the state and the replies are those of the plain keeper, fed the table and the joined bytes of the pieces
-pub replayed-agrees : {table : List ℕ} {p : Progress} (r : Replayed table p) → Agreed table (r .load .result .bench) (r .poured .calls)
+pub replayed-agrees : {table : List ℕ} {p : Progress} (r : Replayed table p) → AgreedFrom table (r .load .result .bench) (r .poured .calls)
 replayed-agrees r = rw (← r .given) (agreed (r .load) (r .met) (r .taken) (r .poured .calls) (r .poured .linked) (r .poured .met))
 
 -- so the bench of the last piece, whose state is printed, is the plain keeper's
 pub replayed-state : {table : List ℕ} {p : Progress} (r : Replayed table p)
-    → stateOf (p .bench) ≡ run (loadOf table .state) (takenBytes 0 (pieces (r .poured .calls))) .state
-replayed-state r = rw (← r .poured .bench) (replayed-agrees r .state)
+    → stateOf (p .bench) ≡ run (loadOf table .state) (takenBytes (loadOf table .state .carry .used) (pieces (r .poured .calls))) .state
+replayed-state r = rw (← r .poured .bench) (replayed-agrees r .agreed .state)

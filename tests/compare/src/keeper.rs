@@ -53,6 +53,13 @@ extern "C" {
         out: *mut u8,
         out_length: usize,
     ) -> u32;
+    fn keeper_save(bytes: &Bytes, words: &Words, out: *mut u8, out_length: usize) -> u32;
+    fn keeper_restore(
+        form: *const u8,
+        form_length: usize,
+        bytes: &mut Bytes,
+        words: &mut Words,
+    ) -> u32;
 }
 
 /// How many bytes and words a bench has, by the keeper.
@@ -186,6 +193,21 @@ impl Memory {
             0 => Ok(answer as usize / 256),
             _ => Err(answer),
         }
+    }
+
+    /// Saves the bench to a buffer: the number of the refusal, 0 where the form is written.
+    pub fn save(&self, buffer: &mut [u8]) -> u32 {
+        let (start, length) = (buffer.as_mut_ptr(), buffer.len());
+        // SAFETY: see above.
+        unsafe { keeper_save(&self.bytes, &self.words, start, length) }
+    }
+
+    /// What restoring a form leaves in this memory: the number that it is refused with, 0 where it
+    /// is taken.
+    pub fn restore(&mut self, form: &[u8]) -> u32 {
+        let (start, length) = (form.as_ptr(), form.len());
+        // SAFETY: see above.
+        unsafe { keeper_restore(start, length, &mut self.bytes, &mut self.words) }
     }
 }
 

@@ -7,13 +7,16 @@
 //! so many random benches; `compare feed SEED COUNT` gives them so many logs in
 //! random pieces; `compare questions SEED COUNT` asks every question and calls
 //! every method on so many random benches and on damaged ones; `compare
-//! unordered SEED COUNT` asks for wake sets of damaged memories. It ends with
-//! status 1 at the first difference, and where 200 or more benches or lists leave
-//! out an answer of document 01 or of request One.
+//! unordered SEED COUNT` asks for wake sets of damaged memories; `compare saved
+//! SEED COUNT` saves so many random benches and damaged ones with both, restores
+//! whole, changed and stray forms, and breaks logs off. It ends with status 1 at
+//! the first difference, and where 200 or more benches or lists leave out an
+//! answer of document 01 or of requests One and Four.
 //! `compare bench` times both.
 
 mod answers;
 mod benches;
+mod breaks;
 mod deepest;
 mod feed;
 mod keeper;
@@ -21,6 +24,7 @@ mod layout;
 mod logs;
 mod questions;
 mod records;
+mod saved;
 mod speed;
 mod starts;
 mod tables;
@@ -38,7 +42,7 @@ fn main() -> ExitCode {
     }
     let Some(outcome) = outcome(&words) else {
         eprintln!(
-            "usage: compare tables|writer|benches|unordered|records|questions|feed SEED COUNT, or compare bench"
+            "usage: compare tables|writer|benches|unordered|records|questions|saved|feed SEED COUNT, or compare bench"
         );
         return ExitCode::from(2);
     };
@@ -73,6 +77,7 @@ fn outcome(words: &[&str]) -> Option<Result<String, String>> {
         "records" => Some(records::compare(seed, count)),
         "questions" => Some(questions::compare(seed, count)),
         "feed" => Some(feed::compare(seed, count)),
+        "saved" => Some(saved::compare(seed, count)),
         _ => None,
     }
 }

@@ -1097,6 +1097,216 @@ fn cuts_do_not_matter() {
     }
 }
 
+/// The form of a bench with these bytes at these offsets, and 0 at all others.
+fn form_with(places: &[(usize, &[u8])]) -> Vec<u8> {
+    let mut form = vec![0; 4_753];
+    for (at, bytes) in places {
+        form[*at..at + bytes.len()].copy_from_slice(bytes);
+    }
+    form
+}
+
+#[test]
+fn the_saved_day() {
+    let loaded = form_with(&[
+        (0, b"TWS\x01\x00"),
+        (5, &[255, 255, 0]),
+        (773, &[1, 1, 1]),
+        (1285, &[2]),
+        (1413, &[1]),
+        (1541, &[1]),
+        (1669, &[3]),
+        (4749, &[1]),
+    ]);
+    let mut bench = day_bench();
+    assert_eq!(save(&bench), Ok(loaded));
+    // The reference is asked to resume for the converter, which is held.
+    for (record, _) in &DAY[..5] {
+        bench.record(*record);
+    }
+    assert_eq!(bench.feed(&[0x0D, 0x01], &mut []), Ok(0));
+    let waking = form_with(&[
+        (0, b"TWS\x01\x00"),
+        (5, &[255, 255, 0]),
+        (517, &[ACTIVE, RESUMING, SUSPENDED]),
+        (1285, &[2]),
+        (1413, &[1]),
+        (1541, &[1]),
+        (1669, &[3]),
+        (1670, &[RESUME_CALLBACK, 1, 2]),
+        (1673, &[2, 0x0D, 0x01]),
+        (1677 + 4 * 2, &[1]),
+        (4749, &[1]),
+    ]);
+    assert_eq!(save(&bench), Ok(waking));
+    // All are awake; the bus ignores its child, the converter has an error and many holds.
+    let mut bench = day_bench();
+    for (record, _) in DAY {
+        bench.record(record);
+    }
+    bench.ignore[0] = 1;
+    bench.depth[1] = 255;
+    bench.error[2] = 0x0FFE;
+    bench.holds[2] = 0x7FFE;
+    let awake = form_with(&[
+        (0, b"TWS\x01\x00"),
+        (5, &[255, 255, 0]),
+        (261, &[1, 0, 0]),
+        (517, &[ACTIVE; 3]),
+        (773, &[0, 255, 0]),
+        (1029, &[1, 0, 0]),
+        (1285, &[2]),
+        (1413, &[1]),
+        (1541, &[1]),
+        (1669, &[3]),
+        (1677 + 4 * 2, &[0xFE, 0x7F, 0, 0]),
+        (2701 + 4 * 2, &[0xFE, 0x0F, 0, 0]),
+        (3725 + 4, &[1, 0, 0, 0]),
+        (4749, &[1]),
+    ]);
+    assert_eq!(save(&bench), Ok(awake));
+}
+
+#[test]
+fn the_last_rows_are_saved() {
+    let mut links = vec![[1, 0, 1]];
+    links.extend((2..64).flat_map(|consumer| [[consumer, 0, 1], [consumer, consumer - 1, 3]]));
+    let mut bench = load(&written(&[255, 0].repeat(64), &links)).unwrap();
+    for device in 0..64 {
+        finishes(&mut bench, 10, device, 0, 0);
+    }
+    bench.holds[63] = 0x0102;
+    let form = save(&bench).unwrap();
+    assert_eq!(form[1285 + 124..1413], [63, 0, 0, 0]);
+    assert_eq!(form[1413 + 124..1541], [62, 0, 0, 0]);
+    assert_eq!(form[1541 + 124..1669], [3, 0, 0, 0]);
+    assert_eq!(form[1677 + 4 * 63..][..4], [2, 1, 0, 0]);
+    assert_eq!(form[3725..][..8], [63, 0, 0, 0, 1, 0, 0, 0]);
+    assert_eq!(form[4749..], [125, 0, 0, 0]);
+    assert_eq!(restore(&form), Ok(bench));
+}
+
+#[test]
+fn what_is_saved_is_restored() {
+    // Suspend, resume and idle are open, with 0 to 3 bytes carried.
+    let mut benches = [awake_bench(), lone_bench(), awake_bench()];
+    for (bench, kind) in benches.iter_mut().zip([8, 9, 7]) {
+        send(bench, kind, 0, 0);
+    }
+    let open = benches.each_ref().map(|bench| bench.callback);
+    assert_eq!(open, [SUSPEND_CALLBACK, RESUME_CALLBACK, IDLE_CALLBACK]);
+    for start in benches {
+        let record = [0x0D, 0, 0xF0, 0xFF];
+        for carried in 0..4 {
+            let mut bench = start.clone();
+            bench.feed(&record[..carried], &mut []).unwrap();
+            let form = save(&bench).unwrap();
+            assert_eq!(form[1670], start.callback);
+            assert_eq!(usize::from(form[1673]), carried);
+            assert_eq!(form[1674..1674 + carried], record[..carried]);
+            let mut again = restore(&form).unwrap();
+            assert_eq!(again, bench);
+            let (mut reply, mut right) = ([0; 4], [0; 4]);
+            assert_eq!(again.feed(&record[carried..], &mut reply), Ok(1));
+            assert_eq!(start.clone().feed(&record, &mut right), Ok(1));
+            assert_eq!(reply, right);
+        }
+    }
+}
+
+#[test]
+fn an_unsound_bench_is_not_saved() {
+    assert_eq!(save(&Bench::empty()), Err(21));
+    let mut bench = day_bench();
+    bench.children[0] = 1;
+    assert_eq!(save(&bench), Err(21));
+    assert_eq!(restore(&form_of(&bench)), Err(21));
+}
+
+#[test]
+fn forms_refused_in_order() {
+    let form = save(&day_bench()).unwrap();
+    assert_eq!(form.len(), 4_753);
+    // Every fault of a later number is there as well.
+    let mut bad = form.clone();
+    bad[1669] = 0;
+    assert_eq!(restore(&bad), Err(21));
+    bad.push(0);
+    assert_eq!(restore(&bad), Err(5));
+    for version in [[0, 0], [2, 0], [0, 1], [1, 1]] {
+        bad[3..5].copy_from_slice(&version);
+        assert_eq!(restore(&bad), Err(3));
+    }
+    for (at, byte) in [(0, b't'), (1, b'T'), (2, b'B')] {
+        let mut marked = bad.clone();
+        marked[at] = byte;
+        assert_eq!(restore(&marked), Err(2));
+        for length in 0..5 {
+            assert_eq!(restore(&marked[..length]), Err(1));
+        }
+        assert_eq!(restore(&marked[..5]), Err(2));
+    }
+    for length in 0..form.len() {
+        let number = if length < 5 { 1 } else { 5 };
+        assert_eq!(restore(&form[..length]), Err(number));
+    }
+}
+
+#[test]
+fn values_beyond_their_fields_are_refused() {
+    let form = save(&day_bench()).unwrap();
+    // The third and the fourth byte of holds, error and links of a device, and the upper ones of m.
+    for at in [1679, 1680, 2703, 2704, 3727, 3728, 4750, 4751, 4752] {
+        let mut bad = form.clone();
+        bad[at] = 1;
+        assert_eq!(restore(&bad), Err(21));
+    }
+}
+
+#[test]
+fn a_changed_form_is_refused_or_another_one() {
+    let mut bench = day_bench();
+    for (record, _) in &DAY[..5] {
+        bench.record(*record);
+    }
+    let mut form = save(&bench).unwrap();
+    let mut others = 0;
+    for at in 0..form.len() {
+        let right = form[at];
+        for value in [0, 1, 2, 3, 127, 128, 255, right ^ 1, right ^ 2] {
+            form[at] = value;
+            if let (true, Ok(other)) = (value != right, restore(&form)) {
+                assert_ne!(other, bench);
+                assert_eq!(save(&other).as_ref(), Ok(&form));
+                others += 1;
+            }
+        }
+        form[at] = right;
+    }
+    assert!(others > 20);
+}
+
+#[test]
+fn breaks_do_not_matter() {
+    let (mut random, mut tally) = (Random::new(19), Tally::default());
+    for _ in 0..100 {
+        let start = load(&tables::small(&mut random, 7)).unwrap();
+        let mut session = Session::new(start.clone(), &mut tally);
+        session.enable_all(&mut random);
+        let host = any_host(&mut random);
+        session.play(&mut random, host, 40);
+        session.leave_rest(&mut random);
+        let (mut bench, mut replies) = (start, Vec::new());
+        for byte in &session.log {
+            bench = restore(&save(&bench).unwrap()).unwrap();
+            let mut reply = [0; 4];
+            let whole = bench.feed(&[*byte], &mut reply).unwrap();
+            replies.extend(&reply[..4 * whole]);
+        }
+        assert_eq!((bench, replies), (session.bench, session.replies));
+    }
+}
+
 #[test]
 fn a_seed_gives_the_same_lines() {
     let lines = |seed| -> Vec<String> {
