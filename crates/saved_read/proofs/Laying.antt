@@ -68,7 +68,7 @@ module _ {f : List ℕ} {p : Span} {bytes words bytes₁ words₁ : List ℕ} (h
   placed-long true e =
       let (within, room) = fits-words h e in
       let many : length (wordsFrom (area (p .at) (4 * p .cells) f)) ≡ p .cells =
-          words-count (area (p .at) (4 * p .cells) f) ∙ (let z = area-length (p .at) (4 * p .cells) f within in omega arith) in
+      words-count (area (p .at) (4 * p .cells) f) ∙ (let z = area-length (p .at) (4 * p .cells) f within in omega arith) in
       let b = rw e at (g .inBytes) in
       let w = rw e at (g .inWords) in
       (ap length b, ap length w ∙ laid-long words _ (p .to) (p .cells) many room)

@@ -60,7 +60,7 @@ module _ (bytes words d : List ℕ) (b : length bytes ≡ BYTES) (w : length wor
       let first : y ≡ (header ++ bytes) ++ drop (HEADER + BYTES) d = g ∙ rw (f, headed d) (onto header d bytes HEADER BYTES k b) in
       let rest = onto (header ++ bytes) d (wordBytes words) (HEADER + BYTES) (4 * WORDS) l n in
       let long : length (formIn bytes words) ≡ HEADER + BYTES + 4 * WORDS =
-          length-append header (bytes ++ wordBytes words) ∙ (let q = length-append bytes (wordBytes words) in omega arith) in
+      length-append header (bytes ++ wordBytes words) ∙ (let q = length-append bytes (wordBytes words) in omega arith) in
       h ∙ rw (first, rest, append-assoc header bytes (wordBytes words), long)
 
 -- ---- what writing answers
