@@ -4,8 +4,7 @@ ghost use Prim.Native.Nat.{_+_};
 ghost use Rattle.memory.specs.Layout.{stateIn};
 ghost use Rattle.request_answer.specs.Promises.{replyOf};
 ghost use Rattle.model.specs.Methods.{requested};
-ghost use Rattle.keeper_bench.specs.Translate.{stateOf};
-ghost use Rattle.keeper_bench.specs.Methods.{numberIn, replyIn, requestedOf};
+ghost use Rattle.keeper_bench.specs.Methods.{numberIn, replyIn, Gives};
 ghost use Rattle.keeper_answers.specs.Told.{toldCode};
 ghost use Rattle.export_bench.specs.Asked.{askedOf};
 ghost use Rattle.export_bench.specs.Called.{packed, methodOf, CalledIs};
@@ -48,7 +47,7 @@ pub extern "C" fn keeper_ask<'a>(
 
 // The method of a kind, that of results for any kind above 12.
 fn called(b: Bench, kind: u8, p: u8, v: u16) -> Requested
-    ensures { λ o. ⌜ requestedOf o ≡ requested (stateOf b) (methodOf kind p v) ⌝ }
+    ensures { λ o. ⌜ Gives b (methodOf kind p v) o ⌝ }
 {
     match kind {
         1 => b.enable(p),

@@ -1,8 +1,5 @@
 // One request or result on a bench: each method hands back a whole new bench by value, and leaves the old one to its caller.
-ghost use mathlib.Core.Path.{_≡_};
-ghost use Rattle.model.specs.Methods.{requested};
-ghost use Rattle.keeper_bench.specs.Translate.{stateOf};
-ghost use Rattle.keeper_bench.specs.Methods.{requestedOf, recordFor};
+ghost use Rattle.keeper_bench.specs.Methods.{recordFor, Gives};
 use crate::Bench;
 use record_kinds::Record;
 use request_answer::Reply;
@@ -22,7 +19,7 @@ pub struct Requested {
 impl Bench {
     // One record. A bench that is not sound comes back as it was.
     fn take(mut self, kind: u8, device: u8, value: u16) -> Requested
-        ensures { λ o. ⌜ requestedOf o ≡ requested (stateOf self) (recordFor kind device value) ⌝ }
+        ensures { λ o. ⌜ Gives self (recordFor kind device value) o ⌝ }
     {
         if !self.sound() {
             return Requested {
@@ -49,91 +46,91 @@ impl Bench {
 
     // Kind 1.
     pub fn enable(mut self, device: u8) -> Requested
-        ensures { λ o. ⌜ requestedOf o ≡ requested (stateOf self) (recordFor 1 device 0) ⌝ }
+        ensures { λ o. ⌜ Gives self (recordFor 1 device 0) o ⌝ }
     {
         self.take(1, device, 0)
     }
 
     // Kind 2.
     pub fn disable(mut self, device: u8) -> Requested
-        ensures { λ o. ⌜ requestedOf o ≡ requested (stateOf self) (recordFor 2 device 0) ⌝ }
+        ensures { λ o. ⌜ Gives self (recordFor 2 device 0) o ⌝ }
     {
         self.take(2, device, 0)
     }
 
     // Kind 3.
     pub fn get(mut self, device: u8) -> Requested
-        ensures { λ o. ⌜ requestedOf o ≡ requested (stateOf self) (recordFor 3 device 0) ⌝ }
+        ensures { λ o. ⌜ Gives self (recordFor 3 device 0) o ⌝ }
     {
         self.take(3, device, 0)
     }
 
     // Kind 4: get and wake.
     pub fn get_wake(mut self, device: u8) -> Requested
-        ensures { λ o. ⌜ requestedOf o ≡ requested (stateOf self) (recordFor 4 device 0) ⌝ }
+        ensures { λ o. ⌜ Gives self (recordFor 4 device 0) o ⌝ }
     {
         self.take(4, device, 0)
     }
 
     // Kind 5.
     pub fn put(mut self, device: u8) -> Requested
-        ensures { λ o. ⌜ requestedOf o ≡ requested (stateOf self) (recordFor 5 device 0) ⌝ }
+        ensures { λ o. ⌜ Gives self (recordFor 5 device 0) o ⌝ }
     {
         self.take(5, device, 0)
     }
 
     // Kind 6: put and idle.
     pub fn put_idle(mut self, device: u8) -> Requested
-        ensures { λ o. ⌜ requestedOf o ≡ requested (stateOf self) (recordFor 6 device 0) ⌝ }
+        ensures { λ o. ⌜ Gives self (recordFor 6 device 0) o ⌝ }
     {
         self.take(6, device, 0)
     }
 
     // Kind 7.
     pub fn idle(mut self, device: u8) -> Requested
-        ensures { λ o. ⌜ requestedOf o ≡ requested (stateOf self) (recordFor 7 device 0) ⌝ }
+        ensures { λ o. ⌜ Gives self (recordFor 7 device 0) o ⌝ }
     {
         self.take(7, device, 0)
     }
 
     // Kind 8.
     pub fn suspend(mut self, device: u8) -> Requested
-        ensures { λ o. ⌜ requestedOf o ≡ requested (stateOf self) (recordFor 8 device 0) ⌝ }
+        ensures { λ o. ⌜ Gives self (recordFor 8 device 0) o ⌝ }
     {
         self.take(8, device, 0)
     }
 
     // Kind 9.
     pub fn wake(mut self, device: u8) -> Requested
-        ensures { λ o. ⌜ requestedOf o ≡ requested (stateOf self) (recordFor 9 device 0) ⌝ }
+        ensures { λ o. ⌜ Gives self (recordFor 9 device 0) o ⌝ }
     {
         self.take(9, device, 0)
     }
 
     // Kind 10.
     pub fn set_active(mut self, device: u8) -> Requested
-        ensures { λ o. ⌜ requestedOf o ≡ requested (stateOf self) (recordFor 10 device 0) ⌝ }
+        ensures { λ o. ⌜ Gives self (recordFor 10 device 0) o ⌝ }
     {
         self.take(10, device, 0)
     }
 
     // Kind 11.
     pub fn set_suspended(mut self, device: u8) -> Requested
-        ensures { λ o. ⌜ requestedOf o ≡ requested (stateOf self) (recordFor 11 device 0) ⌝ }
+        ensures { λ o. ⌜ Gives self (recordFor 11 device 0) o ⌝ }
     {
         self.take(11, device, 0)
     }
 
     // Kind 12, to a value of 0 or 1.
     pub fn ignore_children(mut self, device: u8, value: u16) -> Requested
-        ensures { λ o. ⌜ requestedOf o ≡ requested (stateOf self) (recordFor 12 device value) ⌝ }
+        ensures { λ o. ⌜ Gives self (recordFor 12 device value) o ⌝ }
     {
         self.take(12, device, value)
     }
 
     // Kind 13: the result of the open callback, a value of 0 or less as it stands in a record.
     pub fn result(mut self, device: u8, value: u16) -> Requested
-        ensures { λ o. ⌜ requestedOf o ≡ requested (stateOf self) (recordFor 13 device value) ⌝ }
+        ensures { λ o. ⌜ Gives self (recordFor 13 device value) o ⌝ }
     {
         self.take(13, device, value)
     }

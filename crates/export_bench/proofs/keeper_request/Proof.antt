@@ -9,7 +9,7 @@ use Rattle.export_bench.proofs.keeper_request.Tie as tie
 
 returns : tie.Need-returns
 returns c =
-    let done = c .before .before .before .before .called .ensures in
+    let done = c .before .before .before .before .called .ensures .is in
     record {
       code = c .outcome-code .ensures ∙ ap (λ (q : Requested). q .number + packed (q .reply)) done;
       state = ap (λ (q : Requested). q .state) done;

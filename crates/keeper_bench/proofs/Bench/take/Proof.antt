@@ -12,7 +12,7 @@ use Rattle.keeper_bench.proofs.Bench.take.Tie as tie
 -- the bench is not sound
 returns : tie.Need-returns
 unfolding requested if_then_else_
-returns c = rw (failed (c .before .sound .ensures .test) (c .if1 .taken))
+returns c = record { is = rw (failed (c .before .sound .ensures .test) (c .if1 .taken)) }
 
 -- the record is taken
 returns-2 : tie.Need-returns-2
@@ -23,7 +23,8 @@ returns-2 c =
     let tested = lent .before .before .before .before in
     let v = tested .before .sound .ensures in
     let h = v .sound (not-false _ (tested .if1 .left)) in
-    rw (passed (v .test) (tested .if1 .left), c .step .ensures .is (sound-indexed h (indexed .index .ensures .is (h .kept .table .order .links))))
+    let led = c .step .ensures .is (sound-indexed h (indexed .index .ensures .is (h .kept .table .order .links))) in
+    record { is = rw (passed (v .test) (tested .if1 .left), led) }
 
 pub take-spec : {M : Type 1} → statement M
 take-spec = tie.close (tie.spec (λ c κs. search needs) returns (λ c κs. search needs) (λ c κs. search needs) returns-2)
