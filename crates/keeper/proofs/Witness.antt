@@ -59,7 +59,7 @@ answers c p =
     by-if (λ n. (n ≡ 22) ⊎ ((n ≡ 23) ⊎ (n ≡ 0))) _ _ _ (λ e. inl refl)
     (λ e. by-if (λ n. (n ≡ 22) ⊎ ((n ≡ 23) ⊎ (n ≡ 0))) _ _ _ (λ f. inr (inl refl)) (λ f. inr (inr refl)))
 
-one : (b : Bench) (p : Piece) → Sound (stateOf b) → Given b p
+pub one : (b : Bench) (p : Piece) → Sound (stateOf b) → Given b p
 one b p h =
     let s = stateOf b in
     ⊎-elim (λ e. given b p Long s (p .buffer) h (rw e at (piece-refused s h p (rw e))))
@@ -68,11 +68,11 @@ one b p h =
     (answers (s .carry .used) p)
 
 -- ---- calls as the check of a caller reads them: where a reference points, its ghost name and the lifetimes are any
-abbrev lent : List ℕ → RefT (List ℕ)
+abbrev pub lent : List ℕ → RefT (List ℕ)
 lent x = record { ptr = (0, 0); name = 0; now = x }
 
-abbrev feed-read : (c : FeedCall) → FeedMet c → FeedRead
-feed-read c m =
+abbrev pub feed-reading : (c : FeedCall) → FeedMet c → FeedRead
+feed-reading c m =
     record {
       κs = ([], ([], tt));
       args = (c .bench, (lent (c .piece .bytes), (lent (c .piece .buffer), tt)));
@@ -96,7 +96,7 @@ chain b [] h = record { reads = []; given = refl; linked = tt }
 chain b (p ∷ ps) h =
     let g = one b p h in
     let r = chain (g .call .result .bench) ps (g .sound) in
-    record { reads = feed-read (g .call) (g .met) ∷ r .reads; given = rw (g .piece, r .given); linked = (g .bench, r .linked) }
+    record { reads = feed-reading (g .call) (g .met) ∷ r .reads; given = rw (g .piece, r .given); linked = (g .bench, r .linked) }
 
 -- ---- and the call of `load` before them
 -- a table that is taken has number 0 and index 0
