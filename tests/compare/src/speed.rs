@@ -1,5 +1,5 @@
-//! How fast the keeper is beside the second implementation: one log, given to both in turn; and two
-//! logs that wake the largest wake sets over and over.
+//! How fast the keeper is beside the second implementation: one log, given to both in turn; two
+//! logs that wake the largest wake sets over and over; and a bench saved and restored.
 
 use crate::deepest;
 use crate::keeper::Memory;
@@ -17,6 +17,8 @@ const SEED: u64 = 1;
 const RECORDS: usize = 100_000;
 /// How often each keeper is given the log.
 const RUNS: usize = 101;
+/// How often a bench is saved and restored in one run.
+const SAVES: usize = 100;
 /// How often the last device of a worst case is woken.
 const ROUNDS: usize = 50;
 
@@ -25,9 +27,10 @@ pub fn compare() -> Result<String, String> {
     let (bench, log) = log();
     let (ours, second) = both(&bench, &log, RUNS)?;
     let (chain, fan) = (worst(&deepest::parents())?, worst(&deepest::fan())?);
+    let kept = kept(&bench)?;
     Ok(format!(
         "bench: {RECORDS} records, {} devices, {} links, pieces of {MAX_PIECE} bytes, {RUNS} runs each\n\
-         keeper: {ours}\nsecond: {second}\nthe deepest chain, {chain}\nthe widest fan, {fan}\n\
+         keeper: {ours}\nsecond: {second}\nthe deepest chain, {chain}\nthe widest fan, {fan}\n{kept}\n\
          ratio of medians {:.2}\nratio {:.2}",
         bench.n,
         bench.m,
@@ -85,6 +88,39 @@ fn worst(table: &[u8]) -> Result<String, String> {
         log.len() / 4,
         ours.best / second.best
     ))
+}
+
+/// Both keepers save a bench and restore it: the words to print.
+fn kept(bench: &Bench) -> Result<String, String> {
+    let memory = Memory::from(bench);
+    let form = second::save(bench).map_err(|number| format!("bench: not saved, {number}"))?;
+    let mut buffer = vec![0; form.len()];
+    if memory.save(&mut buffer) != 0 || buffer != form {
+        return Err("bench: the saved forms differ".to_string());
+    }
+    let mut left = memory.clone();
+    let ours_saving = often(|| memory.save(black_box(&mut buffer)));
+    let ours_restoring = often(|| left.restore(black_box(&form)));
+    let second_saving = often(|| second::save(black_box(bench)));
+    let second_restoring = often(|| second::restore(black_box(&form)));
+    Ok(format!(
+        "a bench of {} bytes: keeper saves it in {ours_saving:.0} ns and restores it in {ours_restoring:.0}; \
+         second {second_saving:.0} and {second_restoring:.0}",
+        form.len()
+    ))
+}
+
+/// The best time of something, in nanoseconds.
+fn often<T>(mut what: impl FnMut() -> T) -> f64 {
+    let mut best = f64::INFINITY;
+    for _ in 0..RUNS {
+        let before = Instant::now();
+        for _ in 0..SAVES {
+            black_box(what());
+        }
+        best = best.min(before.elapsed().as_nanos() as f64 / SAVES as f64);
+    }
+    best
 }
 
 /// Gives a keeper the whole log, a piece at a time; the replies to each are handed on.
