@@ -28,7 +28,7 @@ use Rattle.keeper_bench.specs.declared.Bench.{Bench}
 use Rattle.keeper_bench.specs.Translate.{stateOf, benchOf}
 use Rattle.keeper_bench.proofs.Translations.{sound-back-and-there}
 use Rattle.keeper.specs.Calls.{LoadCall, FeedCall, pieces, Linked, LoadMet, FeedMet, AgreedFrom}
-use Rattle.keeper.proofs.Calls.{LoadRead, FeedRead, loadCall, feedCall, feedCalls, demand-3-calls}
+use Rattle.keeper.proofs.Calls.{LoadRead, FeedRead, loadCall, feedCalls, demand-3-calls}
 
 -- ---- one call of `feed` on a bench of a sound state
 -- an answer that says what the model's does, and the bench of the state that is left

@@ -1,12 +1,11 @@
 -- What saving and restoring answer, exit by exit. Assumes nothing.
-use mathlib.Core.Path.{_≡_, refl, sym, _∙_, ap}
+use mathlib.Core.Path.{_≡_, sym, _∙_}
 use mathlib.Core.Bool.{Bool, true, false}
 use mathlib.Core.List.{List}
 use Prim.Native.Nat.{ℕ, _≤_, _<_}
-use native.Mathlib.Omega.{arith}
-use lib.ListN.{length, replicate}
+use lib.ListN.{length}
 use lib.Dec.{leb}
-use borrow.Author.Tests.{le-ltb, lt-ltb, leb-true, leb-false, eq-eqb, ne-eqb}
+use borrow.Author.Tests.{le-ltb, lt-ltb, leb-true, leb-false, ne-eqb}
 use Rattle.model.specs.Logic.{if_then_else_}
 use Rattle.model.specs.State.{State}
 use Rattle.model.specs.SoundTest.{soundTest}
@@ -15,10 +14,9 @@ use Rattle.memory.specs.Layout.{BYTES, WORDS, stateIn}
 use Rattle.memory.proofs.Inverse.{bytes-of, words-of}
 use Rattle.keeper_bench.specs.declared.Bench.{Bench}
 use Rattle.keeper_bench.specs.Translate.{stateOf}
-use Rattle.saved_form.specs.Words.{wordBytes}
 use Rattle.saved_form.specs.Form.{FORM, form}
 use Rattle.saved_form.specs.Saving.{Saved, saveNumber, saveOf}
-use Rattle.saved_form.specs.Restoring.{spans, versionIn, stateBy, headAnswer, Restored, refusal, judgedOf, restoreOf}
+use Rattle.saved_form.specs.Restoring.{stateBy, headAnswer, Restored, refusal, judgedOf, restoreOf}
 use Rattle.saved_answer.specs.Answers.{restoringOf}
 use Rattle.saved_write.specs.Writes.{formIn, WriteIs}
 use Rattle.saved_read.specs.Reads.{ReadIs}

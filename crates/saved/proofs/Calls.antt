@@ -9,7 +9,7 @@ use borrow.Fn.World as World
 use contract.Lifetimes.{Lfts}
 use denote.Triple.Clauses as Clauses
 use borrow.Fn.Kinds as Ends
-use Rattle.model.specs.State.{State, Loaded, loadOf}
+use Rattle.model.specs.State.{State, Loaded}
 use Rattle.model.specs.Sound.{Sound}
 use Rattle.model.specs.Steps.{repliesIn, run}
 use Rattle.model.specs.Feed.{Piece, Fed, feedOf}
@@ -19,7 +19,7 @@ use Rattle.model.proofs.Loading.{load-sound}
 use Rattle.model.proofs.Running.{run-sound}
 use Rattle.keeper_bench.specs.declared.Bench.{Bench}
 use Rattle.keeper_bench.specs.Translate.{stateOf}
-use Rattle.keeper.specs.Calls.{FeedCall, gave, pieces}
+use Rattle.keeper.specs.Calls.{gave, pieces}
 use Rattle.keeper.proofs.Calls.{LoadRead, FeedRead, loadCall, feedCall, agreed-by}
 use Rattle.saved_answer.specs.Answers.{savingOf}
 use Rattle.saved_form.specs.Form.{FORM}

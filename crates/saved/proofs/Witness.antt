@@ -1,7 +1,7 @@
 -- Calls as demand 3 speaks of them exist: from every sound state a saved state restores to it, and a battery change leads through it, read as the
 -- theorem reads them. So a list may begin with a `restore` and have a battery change at any place. Assumes nothing.
-use mathlib.Core.Path.{_≡_, refl, sym, ap, _∙_}
-use mathlib.Core.List.{List, [], _∷_, _++_}
+use mathlib.Core.Path.{_≡_, refl, sym, ap}
+use mathlib.Core.List.{List, [], _∷_}
 use Prim.Native.Nat.{ℕ, _≤_}
 use native.Mathlib.Omega.{arith}
 use lib.ListN.{length, take, replicate, length-replicate}
@@ -21,10 +21,10 @@ use Rattle.saved_answer.specs.declared.Saving.the-variants.{Written}
 use Rattle.saved_answer.specs.declared.Restoring.the-variants as restoring
 use Rattle.saved_form.specs.Form.{FORM, form}
 use Rattle.saved_form.specs.Saving.{saveNumber, saveOf}
-use Rattle.saved_form.specs.Restoring.{Restored, restoreOf}
+use Rattle.saved_form.specs.Restoring.{Restored}
 use Rattle.saved_form.proofs.Laws.{form-long, restores}
 use Rattle.saved.specs.Calls.{SaveCall, RestoreCall, SaveMet, RestoreMet, benchAt, stateAt, Taken, Linked, feeds, AgreedOver}
-use Rattle.saved.proofs.Calls.{SaveRead, RestoreRead, saveCall, restoreCall, StartRead, restore-read, CallRead, feed-read, keep-read, startOf, callsOf, demand-3-kept}
+use Rattle.saved.proofs.Calls.{SaveRead, RestoreRead, StartRead, restore-read, CallRead, feed-read, keep-read, startOf, callsOf, demand-3-kept}
 
 -- ---- a call of `restore` on the form of a sound state
 abbrev restore-call : State → RestoreCall

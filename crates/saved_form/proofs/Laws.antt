@@ -1,31 +1,29 @@
 -- The laws of the saved state: a sound bench has exactly one form, and equal forms are equal benches. What a form holds is the memory, which
 -- determines the state; so no byte of it is free. Assumes nothing.
 use mathlib.Core.Path.{_≡_, refl, sym, _∙_, ap}
-use mathlib.Core.Bool.{true, false, not}
+use mathlib.Core.Bool.{true, not}
 use mathlib.Core.List.{List, _∷_, _++_}
 use Prim.Native.Nat.{ℕ, _+_, _*_, _≤_}
 use native.Mathlib.Omega.{arith}
 use lib.ListN.{length, getD, take, drop, length-append, length-drop, take-append-drop}
 use lib.Seq.{drop-cons, drop-drop, take-at, drop-at, take-all, getD-drop}
-use lib.Dec.{eqb, ltb}
-use borrow.Author.Tests.{eqb-true, eq-eqb, not-false}
+use borrow.Author.Tests.{eqb-true}
 use Rattle.model.specs.Logic.{if_then_else_, _and_}
 use Rattle.model.specs.State.{State}
 use Rattle.model.specs.Sound.{Sound}
-use Rattle.model.specs.SoundTest.{soundTest}
 use Rattle.model.specs.Feed.{over}
-use Rattle.model.proofs.Basics.{by-if, and-parts}
-use Rattle.model.proofs.SoundTest.{sound-shaped, sound-tested}
+use Rattle.model.proofs.Basics.{and-parts}
+use Rattle.model.proofs.SoundTest.{sound-shaped}
 use Rattle.memory.specs.Layout.{BYTES, WORDS, BYTE, area, Cells, stateIn, bytesOf, wordsOf}
 use Rattle.memory.proofs.Inverse.{bytes-of, words-of, bytes-long, words-long, sound-memory}
 use Rattle.saved_form.specs.Words.{wordBytes, wordsFrom}
 use Rattle.saved_form.specs.Form.{HEADER, FORM, header, form}
-use Rattle.saved_form.specs.Saving.{Saved, saveNumber, saveOf}
-use Rattle.saved_form.specs.Restoring.{marked, versionIn, Restored, refusal, restoreOf}
+use Rattle.saved_form.specs.Saving.{saveOf}
+use Rattle.saved_form.specs.Restoring.{marked, versionIn, Restored, restoreOf}
 use Rattle.saved_form.specs.Laws.{OneForm, RestoresSound, EqualForms, RefusedEmpty, SavedRestores}
 use Rattle.saved_form.proofs.Words.{words-back, bytes-back, bytes-count}
 use Rattle.saved_form.proofs.Ranges.{words-low}
-use Rattle.saved_form.proofs.Reading.{bytesIn, wordsIn, bytes-in-long, words-in-long, Headed, head-passes, restore-done, Passed, restored-passed, refused-empty}
+use Rattle.saved_form.proofs.Reading.{bytesIn, wordsIn, bytes-in-long, words-in-long, Headed, head-passes, restore-done, restored-passed, refused-empty}
 
 -- bytes that restore to s
 abbrev taken : State → Restored

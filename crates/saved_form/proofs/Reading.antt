@@ -1,18 +1,17 @@
 -- What restoring reads of a form of version 1, and what it answers, test by test. Assumes nothing.
 use mathlib.Core.Path.{_≡_, refl, sym, _∙_, ap}
-use mathlib.Core.Bool.{Bool, true, false, not}
-use mathlib.Core.List.{List, [], _∷_, _++_, append-nil}
-use Prim.Native.Nat.{ℕ, _+_, _*_, _<_, _≤_}
+use mathlib.Core.Bool.{true, not}
+use mathlib.Core.List.{List, append-nil}
+use Prim.Native.Nat.{ℕ, _+_, _*_, _≤_}
 use native.Mathlib.Omega.{arith}
 use native.Mathlib.Nat.{zero-add}
 use native.Mathlib.Decide.{ℕ-discrete}
-use lib.ListN.{length, getD, take, drop, replicate, length-replicate, drop-of-length-le}
-use lib.Dec.{eqb, ltb}
+use lib.ListN.{length, replicate, length-replicate, drop-of-length-le}
+use lib.Dec.{eqb}
 use borrow.Author.Tests.{le-ltb, eq-eqb, ne-eqb, eqb-true, not-false}
 use Rattle.model.specs.Logic.{if_then_else_, _and_}
-use Rattle.model.specs.State.{State, emptyState}
+use Rattle.model.specs.State.{emptyState}
 use Rattle.model.specs.Sound.{Sound}
-use Rattle.model.specs.SoundTest.{soundTest}
 use Rattle.model.proofs.Basics.{by-if}
 use Rattle.model.proofs.SoundTest.{Shaped, sound-iff, sound-tested}
 use Rattle.memory.specs.Layout.{BYTES, WORDS, area, stateIn}

@@ -9,7 +9,7 @@ use Rattle.model.specs.Sound.{Sound}
 use Rattle.memory.specs.Layout.{BYTE, Cells}
 use Rattle.saved_form.specs.Form.{FORM, form}
 use Rattle.saved_form.specs.Saving.{saveOf}
-use Rattle.saved_form.specs.Restoring.{Restored, restoreOf}
+use Rattle.saved_form.specs.Restoring.{restoreOf}
 
 -- "Each sound bench has exactly one saved form": its form restores to it, and bytes that restore to it are its form
 pub record OneForm (s : State) : Type 0 where

@@ -21,15 +21,19 @@ shared-slice-read-into : tie.Need-shared-slice-read-into Inv-loop μ-loop
 shared-slice-read-into c = omega (arith, c .before .before .before .least .ensures)
 
 slice-write-into : tie.Need-slice-write-into Inv-loop μ-loop
-slice-write-into c = let z = c .before .before .loop .inv .long in omega (arith, c .before .before .before .least .ensures)
+slice-write-into c =
+    let loop = c .before .before in
+    let z = loop .loop .inv .long in
+    omega (arith, loop .before .least .ensures)
 
 loop-again : tie.Need-loop-again Inv-loop μ-loop
 loop-again c =
     let turn = c .before in
-    let start = turn .before .before .before .before .before in
-    let fits = turn .before .loop .inv .fits in
-    let room : turn .before .loop .i < length (start .args .into .now) = omega arith in
-    copied-one _ _ _ (turn .loop-test .taken) (turn .before .loop .inv) refl refl (byte-at (start .args .from .now) _ _ room)
+    let loop = turn .before in
+    let start = loop .before .before .before .before in
+    let fits = loop .loop .inv .fits in
+    let room : loop .loop .i < length (start .args .into .now) = omega arith in
+    copied-one _ _ _ (turn .loop-test .taken) (loop .loop .inv) refl refl (byte-at (start .args .from .now) _ _ room)
 
 same-length : tie.Need-same-length Inv-loop μ-loop
 same-length c = c .before .loop .inv .long

@@ -28,16 +28,20 @@ mul-into : tie.Need-mul-into Inv-loop μ-loop
 mul-into c = omega (arith, c .before .before .before .least .ensures)
 
 slice-write-into : tie.Need-slice-write-into Inv-loop μ-loop
-slice-write-into c = let z = c .before .before .loop .inv .long in omega (arith, c .before .before .before .least .ensures)
+slice-write-into c =
+    let loop = c .before .before in
+    let z = loop .loop .inv .long in
+    omega (arith, loop .before .least .ensures)
 
 loop-again : tie.Need-loop-again Inv-loop μ-loop
 loop-again c =
     let turn = c .before in
-    let start = turn .before .before .before .before .before in
-    let least = turn .before .before .least .ensures in
-    let room : turn .before .loop .j < length (start .args .into .now) = omega arith in
-    let whole : 4 * turn .before .loop .j + 3 < length (start .args .from .now) = omega arith in
-    copied-one _ _ _ (turn .loop-test .taken) (turn .before .loop .inv) refl refl (c .read-word .ensures ∙ word-at (start .args .from .now) _ _ room whole)
+    let loop = turn .before in
+    let start = loop .before .before .before .before in
+    let least = loop .before .least .ensures in
+    let room : loop .loop .j < length (start .args .into .now) = omega arith in
+    let whole : 4 * loop .loop .j + 3 < length (start .args .from .now) = omega arith in
+    copied-one _ _ _ (turn .loop-test .taken) (loop .loop .inv) refl refl (c .read-word .ensures ∙ word-at (start .args .from .now) _ _ room whole)
 
 same-length : tie.Need-same-length Inv-loop μ-loop
 same-length c = c .before .loop .inv .long

@@ -27,16 +27,21 @@ shared-slice-read-write-word : tie.Need-shared-slice-read-write-word Inv-loop μ
 shared-slice-read-write-word c = omega (arith, c .before .before .before .before .least .ensures)
 
 write-word-requires : tie.Need-write-word-requires Inv-loop μ-loop
-write-word-requires c κs = let z = c .before .before .before .loop .inv .long in omega (arith, c .before .before .before .before .least .ensures)
+write-word-requires c κs =
+    let loop = c .before .before .before in
+    let z = loop .loop .inv .long in
+    omega (arith, loop .before .least .ensures)
 
 loop-again : tie.Need-loop-again Inv-loop μ-loop
 loop-again c =
-    let turn = c .before .before .before .before .before in
-    let start = turn .before .before .before .before .before in
-    let least = turn .before .before .least .ensures in
-    let room : turn .before .loop .j < length (start .args .into .now) / 4 = omega arith in
-    rw (c .before .before .write-word .ensures)
-    (copied-word (take (length (start .args .into .now) / 4) (start .args .from .now)) _ (turn .loop-test .taken) (turn .before .loop .inv) (byte-at (start .args .from .now) _ _ room))
+    let written = c .before .before in
+    let turn = written .before .before .before in
+    let loop = turn .before in
+    let start = loop .before .before .before .before in
+    let least = loop .before .least .ensures in
+    let room : loop .loop .j < length (start .args .into .now) / 4 = omega arith in
+    rw (written .write-word .ensures)
+    (copied-word (take (length (start .args .into .now) / 4) (start .args .from .now)) _ (turn .loop-test .taken) (loop .loop .inv) (byte-at (start .args .from .now) _ _ room))
 
 same-length : tie.Need-same-length Inv-loop μ-loop
 same-length c = c .before .loop .inv .long

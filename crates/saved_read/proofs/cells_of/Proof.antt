@@ -2,7 +2,6 @@
 use mathlib.Core.Path.{refl}
 use Rattle.model.specs.Limits.{ROWS, LINKS}
 use Rattle.memory.specs.Layout.{BYTES, WORDS}
-use Rattle.saved_form.specs.Form.{FORM}
 use Rattle.saved_read.proofs.Heads.{version1-fits, zeros-long, cells-filled}
 use borrow.Author.Needs.{needs}
 use Rattle.saved_read.proofs.cells_of.Statement.{statement}
@@ -11,15 +10,16 @@ use Rattle.saved_read.proofs.cells_of.Tie as tie
 fill-requires : tie.Need-fill-requires
 unfolding BYTES WORDS ROWS LINKS
 fill-requires c κs =
-    let fresh = c .before .before .before .before .refused .ensures in
-    let start = c .before .before .before .before .before .before in
-    version1-fits _ _ _ (start .pre) (zeros-long (fresh .1)) (zeros-long (fresh .2))
+    let made = c .before .before .before .before in
+    let fresh = made .refused .ensures in
+    version1-fits _ _ _ (made .before .before .pre) (zeros-long (fresh .1)) (zeros-long (fresh .2))
 
 returns : tie.Need-returns
 unfolding BYTES WORDS ROWS LINKS
 returns c =
     let filled = c .before .before in
-    let fresh = filled .before .before .before .before .before .refused .ensures in
+    let lent = filled .before .before .before in
+    let fresh = lent .before .before .refused .ensures in
     cells-filled refl (fresh .1) (fresh .2) (filled .fill .ensures)
 
 pub cells-of-spec : {M : Type 1} → statement M

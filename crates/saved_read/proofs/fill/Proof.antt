@@ -25,28 +25,34 @@ loop-holds c = filling-none _ _ _ _ (c .before .before .before .pre)
 place-requires : tie.Need-place-requires Inv-loop μ-loop
 place-requires c κs =
     let turn = c .before .before .before in
-    let z = many (turn .before .before .before .before .before) in
+    let lent = turn .before .before in
+    let z = many (lent .before .before .before) in
     let t = turn .loop-test .taken in
     one-fits (omega arith) (turn .before .loop .inv)
 
 loop-less : tie.Need-loop-less Inv-loop μ-loop
 loop-less c =
-    let turn = c .before .before .before .before .before .before .before .before in
-    let z = many (turn .before .before .before .before .before) in
+    let placed = c .before .before .before .before in
+    let turn = placed .before .before .before .before in
+    let lent = turn .before .before in
+    let z = many (lent .before .before .before) in
     let t = turn .loop-test .taken in
     omega arith
 
 loop-again : tie.Need-loop-again Inv-loop μ-loop
 loop-again c =
-    let turn = c .before .before .before .before .before .before .before .before in
-    let z = many (turn .before .before .before .before .before) in
+    let placed = c .before .before .before .before in
+    let turn = placed .before .before .before .before in
+    let lent = turn .before .before in
+    let z = many (lent .before .before .before) in
     let t = turn .loop-test .taken in
-    filling-one (omega arith) (turn .before .loop .inv) _ _ (c .before .before .before .before .place .ensures)
+    filling-one (omega arith) (turn .before .loop .inv) _ _ (placed .place .ensures)
 
 -- all spans are laid
 returns : tie.Need-returns Inv-loop μ-loop
 returns c =
-    let z = many (c .before .before .before .before .before) in
+    let lent = c .before .before in
+    let z = many (lent .before .before .before) in
     let t = c .loop-test .left in
     filling-all (omega arith) (c .before .loop .inv)
 
