@@ -1,4 +1,4 @@
-// The files of the program `replay`: its arguments, what it reads, and what it writes.
+// The files of the programs `replay` and `resume`: their arguments, and what they say and print.
 pub mod arguments;
 pub mod files;
 pub mod printed;

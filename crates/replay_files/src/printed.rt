@@ -5,22 +5,36 @@ use replay_pieces::turn::Progress;
 use replay_text::line::Line;
 
 // Writes a line to standard output and answers whether it could, and says so where not.
-pub fn line(line: Line) -> bool {
+pub fn line(resumes: bool, line: Line) -> bool {
+    if resumes {
+        return program_files::print(b"resume: ", line);
+    }
     program_files::print(b"replay: ", line)
 }
 
 // Says that the keeper refused a piece.
-pub fn stopped(number: u8) {
-    program_files::put(libc::STDERR_FILENO, replay_report::stopped(number));
+pub fn stopped(resumes: bool, number: u8) {
+    program_files::put(
+        libc::STDERR_FILENO,
+        replay_report::stopped(resumes, number),
+    );
+}
+
+// Says that a bench cannot be saved.
+pub fn unsaved(resumes: bool, number: u8) {
+    program_files::put(
+        libc::STDERR_FILENO,
+        replay_report::unsaved(resumes, number),
+    );
 }
 
 // The lines of all devices.
-fn devices(bench: Bench) -> bool {
+fn devices(resumes: bool, bench: Bench) -> bool {
     let bytes = bench.bytes;
     let n = memory::devices(&bytes);
     let mut p: u8 = 0;
     while p < n {
-        if !line(lines::device(bench, p)) {
+        if !line(resumes, lines::device(bench, p)) {
             return false;
         }
         p += 1;
@@ -29,16 +43,16 @@ fn devices(bench: Bench) -> bool {
 }
 
 // The number of replies, and the state that a log leaves.
-pub fn state(progress: Progress) -> bool {
-    if !line(lines::replies(progress)) {
+pub fn state(resumes: bool, progress: Progress) -> bool {
+    if !line(resumes, lines::replies(progress)) {
         return false;
     }
     let bench = progress.bench;
-    if !line(lines::carried(bench)) {
+    if !line(resumes, lines::carried(bench)) {
         return false;
     }
-    if !line(lines::callback(bench)) {
+    if !line(resumes, lines::callback(bench)) {
         return false;
     }
-    devices(bench)
+    devices(resumes, bench)
 }

@@ -7,15 +7,16 @@ ghost use Rattle.replay_program.specs.Ends.{Judged};
 use program_end::End;
 use program_end::status;
 use replay_files::arguments;
+use replay_files::arguments::Asked;
+use replay_files::arguments::Task;
 use replay_files::printed;
 use replay_pieces::turn::Progress;
-use replay_text::size::Size;
 
 // Tells that the table is refused.
 fn refuse(answer: table::Answer) -> End
     ensures { λ r. ⌜ (r ≡ End.Refused) ⊎ (r ≡ End.Failed) ⌝ }
 {
-    if printed::line(replay_report::refused(answer)) {
+    if printed::line(false, replay_report::refused(answer)) {
         return End::Refused;
     }
     End::Failed
@@ -26,14 +27,14 @@ fn tell(table: &[u8], progress: Progress) -> End
     requires { ⌜ Replayed (now table) progress ⌝ }
     ensures { λ r. ⌜ (r ≡ End.Done) ⊎ (r ≡ End.Failed) ⌝ }
 {
-    if printed::state(progress) {
+    if printed::state(false, progress) {
         return End::Done;
     }
     End::Failed
 }
 
-// Loads the table, and replays the log in pieces of that size.
-fn replay(table: &[u8], size: usize) -> End
+// Loads the table, and replays the log.
+fn replay(table: &[u8], task: Task) -> End
     ensures { λ r. ⌜ Judged (loadOf (now (table .entry)) .answer .number) r ⌝ }
 {
     let loaded = keeper::load(table);
@@ -42,7 +43,7 @@ fn replay(table: &[u8], size: usize) -> End
     let table::Answer::Taken = answer else {
         return refuse(answer);
     };
-    let session = replay_log::named(bench, size);
+    let session = replay_log::named(bench, task);
     let end = session.end;
     let End::Done = end else {
         return end;
@@ -53,22 +54,22 @@ fn replay(table: &[u8], size: usize) -> End
 
 // Reads the table, and replays the log. A table that is longer than 4,096 bytes is refused with the number of its first 4,096: the
 // longest that is taken has 519, and the tests before the length read the first seven bytes.
-fn begin(size: usize) -> End {
+fn begin(task: Task) -> End {
     let mut bytes = io::buffer();
     let read = program_files::first_bytes(b"replay: ", b"TABLE", &mut bytes);
     if read.failed {
         return End::Failed;
     }
     let count = read.count;
-    replay(&bytes[..count], size)
+    replay(&bytes[..count], task)
 }
 
 // The program, and its exit status.
 pub fn run() -> u8 {
-    let Size::Bytes(size) = arguments::read() else {
+    let Asked::Given(task) = arguments::read(false) else {
         return status(End::Wrong);
     };
-    status(begin(size))
+    status(begin(task))
 }
 
 // The same for a host, whose exit status it is.

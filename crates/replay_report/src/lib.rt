@@ -1,8 +1,8 @@
-// What the program `replay` prints.
+// What the programs `replay` and `resume` print.
 ghost use mathlib.Core.Path.{_≡_};
 ghost use Rattle.table.specs.Answers.{answerOf};
 ghost use Rattle.replay_text.specs.Line.{lineOf};
-ghost use Rattle.replay_report.specs.Lines.{refusedText, repliesText, carriedText, callbackText, stoppedText};
+ghost use Rattle.replay_report.specs.Lines.{refusedText, repliesText, carriedText, callbackText, speakerText, stoppedText, unsavedText, unrestoredText};
 use basics::long8;
 use basics::long16;
 use replay_text::line::Line;
@@ -50,12 +50,33 @@ pub fn callback(kind: u8, asked: u8, target: u8) -> Line
     }
 }
 
-// replay: piece refused NUMBER
-pub fn stopped(number: u8) -> Line
-    ensures { λ r. ⌜ r ≡ lineOf (stoppedText number) ⌝ }
+// The program that speaks.
+fn speaker(resumes: bool) -> Line
+    ensures { λ r. ⌜ r ≡ lineOf (speakerText resumes) ⌝ }
 {
-    word(
-        field(start(), b"replay: piece refused ", long8(number)),
-        b"\n",
-    )
+    if resumes {
+        return word(start(), b"resume: ");
+    }
+    word(start(), b"replay: ")
+}
+
+// PROGRAM: piece refused NUMBER
+pub fn stopped(resumes: bool, number: u8) -> Line
+    ensures { λ r. ⌜ r ≡ lineOf (stoppedText resumes number) ⌝ }
+{
+    word(field(speaker(resumes), b"piece refused ", long8(number)), b"\n")
+}
+
+// PROGRAM: state refused NUMBER
+pub fn unsaved(resumes: bool, number: u8) -> Line
+    ensures { λ r. ⌜ r ≡ lineOf (unsavedText resumes number) ⌝ }
+{
+    word(field(speaker(resumes), b"state refused ", long8(number)), b"\n")
+}
+
+// state refused NUMBER
+pub fn unrestored(number: u8) -> Line
+    ensures { λ r. ⌜ r ≡ lineOf (unrestoredText number) ⌝ }
+{
+    word(field(start(), b"state refused ", long8(number)), b"\n")
 }

@@ -19,8 +19,9 @@ pub struct Session {
     pub more: bool,
 }
 
-// What a replay reads from, in pieces of which size, and what it writes to.
+// The program that speaks, what it reads from, in pieces of which size, and what it writes to.
 pub struct Ends {
+    pub resumes: bool,
     pub log: i32,
     pub size: usize,
     pub out: i32,
@@ -43,15 +44,15 @@ fn write_replies<'a>(
     bench: Bench,
     piece: &'a [u8],
     replies: &'a [u8],
-    out: i32,
+    ends: Ends,
     out_path: &'a [u8],
 ) -> bool
     requires { ⌜ now replies ≡ repliesIn (run (stateOf bench) (now piece) .log) ⌝ }
 {
-    if io::write_all(out, replies) {
+    if io::write_all(ends.out, replies) {
         return true;
     }
-    files::complain(out_path);
+    files::complain(ends.resumes, out_path);
     false
 }
 
@@ -70,7 +71,7 @@ fn answered(progress: Progress, is_written: bool) -> Session
 }
 
 // Feeds a piece and writes its replies.
-fn fed<'a>(before: Progress, piece: &'a [u8], out: i32, out_path: &'a [u8]) -> Session
+fn fed<'a>(before: Progress, piece: &'a [u8], ends: Ends, out_path: &'a [u8]) -> Session
     ensures { λ r. ⌜ FedTo before (now (piece .entry)) r ⌝ }
 {
     let mut replies = io::buffer();
@@ -79,12 +80,12 @@ fn fed<'a>(before: Progress, piece: &'a [u8], out: i32, out_path: &'a [u8]) -> S
     let answer = turn.answer;
     let number = record_answer::number(answer);
     if number != 0 {
-        printed::stopped(number);
+        printed::stopped(ends.resumes, number);
         return ended(progress, End::Stopped);
     }
     let bench = before.bench;
     let written = turn.bytes;
-    let is_written = write_replies(bench, piece, &replies[..written], out, out_path);
+    let is_written = write_replies(bench, piece, &replies[..written], ends, out_path);
     answered(progress, is_written)
 }
 
@@ -95,14 +96,14 @@ fn next<'a>(before: Progress, ends: Ends, log_path: &'a [u8], out_path: &'a [u8]
     let mut bytes = io::buffer();
     let read = program_files::fill(ends.log, &mut bytes, ends.size);
     if read.failed {
-        files::complain(log_path);
+        files::complain(ends.resumes, log_path);
         return ended(before, End::Failed);
     }
     let count = read.count;
     if count == 0 {
         return ended(before, End::Done);
     }
-    fed(before, &bytes[..count], ends.out, out_path)
+    fed(before, &bytes[..count], ends, out_path)
 }
 
 // Feeds the first piece and all that follow. A proved loop has to end, and nothing says that a file does: the loop ends at a number of
@@ -121,7 +122,7 @@ pub fn pour<'a>(
         pieces: 0,
         replies: 0,
     };
-    let mut session = fed(start, first, ends.out, out_path);
+    let mut session = fed(start, first, ends, out_path);
     while session.more {
         let progress = session.progress;
         if u64::MAX <= progress.pieces {

@@ -3,7 +3,8 @@ use native.Mathlib.Omega.{arith}
 use borrow.Author.Needs.{needs}
 use Rattle.replay_text.specs.Text.{ascii}
 use Rattle.replay_report.specs.Lines.{stoppedText}
-use Rattle.replay_text.proofs.Adding.{holds-start, holds-word, holds-field}
+use Rattle.replay_text.proofs.Adding.{holds-word, holds-field}
+use Rattle.replay_report.proofs.Speaking.{holds-speaker}
 use Rattle.replay_report.proofs.stopped.Statement.{statement}
 use Rattle.replay_report.proofs.stopped.Tie as tie
 
@@ -12,9 +13,10 @@ unfolding ascii stoppedText
 returns c =
     let field = c .before .before in
     let wide = field .before in
-    let start = wide .before .before in
-    let h = holds-start (start .start .ensures) in
-    let g = holds-field (ascii "replay: piece refused ") (start .before .args .number) h (wide .long8 .ensures) (field .field .ensures) (omega arith) in
+    let speaker = wide .before .before in
+    let args = speaker .before .args in
+    let h = holds-speaker (args .resumes) (speaker .speaker .ensures) in
+    let g = holds-field (ascii "piece refused ") (args .number) h (wide .long8 .ensures) (field .field .ensures) (omega arith) in
     holds-word (ascii "\n") g (c .word .ensures) (omega arith) .line
 
 pub stopped-spec : {M : Type 1} → statement M

@@ -5,10 +5,10 @@ use Rattle.replay_files.proofs.printed.devices.Statement.{statement}
 use Rattle.replay_files.proofs.printed.devices.Tie as tie
 
 abbrev Inv-loop : tie.InvT-loop
-Inv-loop bench n p₀ p = p ≤ n
+Inv-loop resumes bench n p₀ p = p ≤ n
 
 abbrev μ-loop : tie.MeasureT-loop
-μ-loop bench n p₀ p = n - p
+μ-loop resumes bench n p₀ p = n - p
 
 pub devices-spec : {M : Type 1} → statement M
 devices-spec =
