@@ -1,5 +1,5 @@
 # make run       the program replay, compiled without a proof, on the worked day of examples/day: some seconds
-# make programs  the programs replay, write and list, proved and built, in host/target/release/
+# make programs  the programs replay, resume, write and list, proved and built, in host/target/release/
 # make scripts   the test programs on their scripts, proved, built and run
 # make test      the gate: every check, ending with the toolchain's verdict
 # make sample    the definitions against the second implementation; SEED and COUNT choose the cases
@@ -22,7 +22,7 @@ export TMPDIR := $(shell tests/scratch)
 # one core for the times, where that can be asked for
 PIN := $(shell command -v taskset > /dev/null && echo taskset -c 0)
 
-PROGRAMS := replay_program write_program list_program
+PROGRAMS := replay_program resume_program write_program list_program
 
 .PHONY: run programs scripts test built listed second sample harness compare states feeds replayed bench
 
@@ -110,9 +110,9 @@ states:
 feeds:
 	tests/compare/target/release/compare feed $(SEED) $(FEEDS)
 
-# the programs on files of every sort; the toolchain's verdict runs the same libraries as target/bin/replay, write and list
+# the programs on files of every sort; the toolchain's verdict runs the same libraries as target/bin/replay, resume, write and list
 replayed:
-	tests/replay/check host/target/release/replay statuses
+	tests/replay/check host/target/release/replay host/target/release/resume statuses
 	tests/lists/check host/target/release/write host/target/release/list
 	host/target/release/write examples/wiring/list.txt target/wiring.bin
 	cmp target/wiring.bin examples/wiring/table.bin

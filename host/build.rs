@@ -6,7 +6,7 @@ use std::env;
 use std::fs;
 use std::path::{Path, PathBuf};
 
-const PROGRAMS: [&str; 3] = ["replay", "write", "list"];
+const PROGRAMS: [&str; 4] = ["replay", "resume", "write", "list"];
 
 /// The folder of the toolchain: RATTLE_HOME, or two above the file `rt`.
 fn toolchain() -> PathBuf {

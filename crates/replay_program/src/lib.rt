@@ -3,7 +3,7 @@ ghost use mathlib.Core.Path.{_≡_};
 ghost use mathlib.Core.Logic.{_⊎_};
 ghost use Rattle.model.specs.State.{loadOf};
 ghost use Rattle.replay_pieces.specs.Poured.{Replayed};
-ghost use Rattle.replay_program.specs.Ends.{Judged};
+ghost use Rattle.replay_session.specs.Sessions.{Ran, Judged};
 use program_end::End;
 use program_end::status;
 use replay_files::arguments;
@@ -22,7 +22,16 @@ fn refuse(answer: table::Answer) -> End
     End::Failed
 }
 
-// Prints the state that the log leaves: the one that the table and the pieces fed lead to.
+// Saves the bench that the log leaves, where that is asked: the one that the table and the pieces fed lead to.
+fn keep(table: &[u8], task: Task, progress: Progress) -> End
+    requires { ⌜ Replayed (now table) progress ⌝ }
+    ensures { λ r. ⌜ Ran r ⌝ }
+{
+    let bench = progress.bench;
+    state_file::keep(task, bench)
+}
+
+// Prints the state that the log leaves.
 fn tell(table: &[u8], progress: Progress) -> End
     requires { ⌜ Replayed (now table) progress ⌝ }
     ensures { λ r. ⌜ (r ≡ End.Done) ⊎ (r ≡ End.Failed) ⌝ }
@@ -33,7 +42,7 @@ fn tell(table: &[u8], progress: Progress) -> End
     End::Failed
 }
 
-// Loads the table, and replays the log.
+// Loads the table, and replays the log; the bench that it leaves is saved before its state is printed.
 fn replay(table: &[u8], task: Task) -> End
     ensures { λ r. ⌜ Judged (loadOf (now (table .entry)) .answer .number) r ⌝ }
 {
@@ -49,6 +58,10 @@ fn replay(table: &[u8], task: Task) -> End
         return end;
     };
     let progress = session.progress;
+    let kept = keep(table, task, progress);
+    let End::Done = kept else {
+        return kept;
+    };
     tell(table, progress)
 }
 

@@ -64,14 +64,20 @@ fn speaker(resumes: bool) -> Line
 pub fn stopped(resumes: bool, number: u8) -> Line
     ensures { λ r. ⌜ r ≡ lineOf (stoppedText resumes number) ⌝ }
 {
-    word(field(speaker(resumes), b"piece refused ", long8(number)), b"\n")
+    word(
+        field(speaker(resumes), b"piece refused ", long8(number)),
+        b"\n",
+    )
 }
 
 // PROGRAM: state refused NUMBER
 pub fn unsaved(resumes: bool, number: u8) -> Line
     ensures { λ r. ⌜ r ≡ lineOf (unsavedText resumes number) ⌝ }
 {
-    word(field(speaker(resumes), b"state refused ", long8(number)), b"\n")
+    word(
+        field(speaker(resumes), b"state refused ", long8(number)),
+        b"\n",
+    )
 }
 
 // state refused NUMBER

@@ -10,13 +10,13 @@ use Rattle.model.proofs.Basics.{never}
 use Rattle.record_answer.specs.Answers.{numberOf}
 use Rattle.keeper_bench.specs.declared.Bench.{Bench}
 use Rattle.program_end.specs.declared.End.{End}
-use Rattle.program_end.specs.declared.End.the-variants.{Done, Failed, Stopped}
+use Rattle.program_end.specs.declared.End.the-variants.{Done, Refused, Failed, Stopped}
 use Rattle.replay_pieces.specs.declared.turn.Progress.{Progress}
 use Rattle.replay_pieces.specs.declared.turn.Turn.{Turn}
 use Rattle.replay_pieces.specs.Turns.{Turned}
 use Rattle.replay_pieces.proofs.Pouring.{poured-none, poured-more}
 use Rattle.replay_session.specs.declared.Session.{Session}
-use Rattle.replay_session.specs.Sessions.{Ran, EndedBy, FedTo, Went, Onward, Stepped}
+use Rattle.replay_session.specs.Sessions.{Ran, Judged, EndedBy, FedTo, Went, Onward, Stepped}
 
 -- ---- ends
 pub ran-done : {e : End} → e ≡ Done → Ran e
@@ -30,9 +30,15 @@ ran-failed h = rw h tt
 ran-as : {e f : End} → e ≡ f → Ran f → Ran e
 ran-as h r = rw h r
 
-ran-stopped : {e : End} → e ≡ Stopped → Ran e
+pub ran-stopped : {e : End} → e ≡ Stopped → Ran e
 unfolding Ran
 ran-stopped h = rw h tt
+
+pub judged-refused : {n : ℕ} {e : End} → (n ≡ 0 → ⊥) → (e ≡ Refused) ⊎ (e ≡ Failed) → Judged n e
+judged-refused z h = record { refused = λ y. h; taken = λ y. absurd (z y) }
+
+pub judged-taken : {n : ℕ} {e : End} → n ≡ 0 → Ran e → Judged n e
+judged-taken z h = record { refused = λ y. absurd (y z); taken = λ y. h }
 
 ran-ended : (n : ℕ) {e : End} → EndedBy n e → Ran e
 ran-ended zero h = ⊎-elim ran-done ran-failed (h .taken (omega arith))

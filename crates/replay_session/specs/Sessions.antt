@@ -23,6 +23,12 @@ Ran Wrong = ⊥
 Ran Failed = Unit {0}
 Ran Stopped = Unit {0}
 
+-- the end for the number of a table or of a saved state: a refused one is told, where standard output can be written; with one that is taken
+-- the log is replayed
+pub record Judged (number : ℕ) (end : End) : Type 0 where
+  pub refused : (number ≡ 0 → ⊥) → (end ≡ Refused) ⊎ (end ≡ Failed)
+  pub taken : number ≡ 0 → Ran end
+
 -- the end after a piece, by the number of its answer: the replay stops where the keeper refuses it, and else goes on or fails
 pub record EndedBy (number : ℕ) (end : End) : Type 0 where
   pub stopped : (number ≡ 0 → ⊥) → end ≡ Stopped

@@ -1,6 +1,6 @@
 //! The program `replay` with an exit status: the proved `replay_program::run`
 //! does everything, and this file hands its status on. Before that it refuses
-//! a REPLIES that is TABLE or LOG under another name.
+//! what names alone cannot tell (`programs::Names`).
 
 use std::env;
 use std::ffi::OsString;
@@ -12,10 +12,8 @@ extern "C" {
 
 fn main() -> ExitCode {
     let arguments: Vec<OsString> = env::args_os().collect();
-    if let [_, table, log, replies] | [_, table, log, replies, _] = arguments.as_slice() {
-        if programs::overwrites(replies, &[table, log]) {
-            return programs::wrong("replay: REPLIES is a file to read");
-        }
+    if let Some(what) = programs::names(&arguments).and_then(|names| names.fault(&[names.first])) {
+        return programs::wrong(&format!("replay: {what}"));
     }
     // SAFETY: the function takes nothing, touches no memory but its own and
     // the program's arguments, and returns (proved).

@@ -1,0 +1,3 @@
+-- What the proof of `keep` cites, and what its callers do.
+pub mod Keeping
+pub mod Ending
