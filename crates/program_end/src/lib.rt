@@ -2,8 +2,8 @@
 ghost use mathlib.Core.Path.{_≡_};
 ghost use Rattle.program_end.specs.Ends.{statusOf};
 
-// All is done, the table or the list is refused, the arguments are wrong, a file cannot be opened, read or written, or the keeper refuses a
-// piece.
+// All is done, the table, the list or the saved state is refused, the arguments are wrong, a file cannot be opened, read or written, or the
+// keeper refuses a piece or to save.
 pub enum End {
     Done,
     Refused,

@@ -1,3 +1,3 @@
-// What the program `replay` does with a log, apart from its files: a piece is fed, and a state has its lines.
+// What the programs `replay` and `resume` do with a log, apart from their files: a piece is fed, and a state has its lines.
 pub mod lines;
 pub mod turn;

@@ -15,7 +15,7 @@ use Rattle.replay_pieces.specs.Turns.{Turned}
 use Rattle.replay_pieces.specs.Poured.{Poured}
 use Rattle.replay_session.specs.declared.Session.{Session}
 
--- how the replay of a log can end: done, a file fails, or the keeper refuses a piece
+-- how the replay of a log can end: done, a file fails, or the keeper refuses a piece or to save
 unfoldable pub Ran : End → Type 0
 Ran Done = Unit {0}
 Ran Refused = ⊥

@@ -1,7 +1,7 @@
 -- What a saving into a buffer of a form's length gives: a sound bench's form and nothing else, or the refusal of one that is not sound. Assumes
 -- nothing.
 use mathlib.Core.Path.{_≡_, refl, sym, ap, _∙_}
-use mathlib.Core.Bool.{Bool, true, false, not}
+use mathlib.Core.Bool.{Bool, true, false}
 use mathlib.Core.List.{List, _++_, append-nil}
 use Prim.Native.Nat.{ℕ}
 use native.Mathlib.Omega.{arith}
@@ -13,7 +13,6 @@ use Rattle.model.specs.Logic.{if_then_else_}
 use Rattle.model.specs.State.{State}
 use Rattle.model.specs.Sound.{Sound}
 use Rattle.model.specs.SoundTest.{soundTest}
-use Rattle.model.specs.Feed.{over}
 use Rattle.model.proofs.SoundTest.{sound-iff}
 use Rattle.memory.specs.Layout.{BYTES, WORDS}
 use Rattle.memory.proofs.Inverse.{shaped-in}
