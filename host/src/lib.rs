@@ -29,7 +29,11 @@ pub fn overwrites(written: &OsStr, read: &[&OsStr]) -> bool {
 fn entry(name: &OsStr) -> Option<PathBuf> {
     let path = Path::new(name);
     let folder = path.parent()?;
-    let folder = if folder.as_os_str().is_empty() { Path::new(".") } else { folder };
+    let folder = if folder.as_os_str().is_empty() {
+        Path::new(".")
+    } else {
+        folder
+    };
     Some(fs::canonicalize(folder).ok()?.join(path.file_name()?))
 }
 
@@ -40,7 +44,8 @@ fn replaces(state: &OsStr, other: &OsStr) -> bool {
         return false;
     };
     let is_place = |path: PathBuf| path == place;
-    state != other && (entry(other).is_some_and(is_place) || fs::canonicalize(other).is_ok_and(is_place))
+    state != other
+        && (entry(other).is_some_and(is_place) || fs::canonicalize(other).is_ok_and(is_place))
 }
 
 /// The names in the arguments of `replay` and `resume`: what is loaded, LOG,
@@ -64,7 +69,12 @@ pub fn names(arguments: &[OsString]) -> Option<Names<'_>> {
         }
         _ => return None,
     };
-    Some(Names { first, log, replies, state })
+    Some(Names {
+        first,
+        log,
+        replies,
+        state,
+    })
 }
 
 impl Names<'_> {
@@ -81,7 +91,12 @@ impl Names<'_> {
             return Some("STATE is no regular file");
         }
         let others = [self.log, self.replies];
-        if others.iter().chain(kept).any(|other| replaces(state, other)) || overwrites(self.replies, &[state]) {
+        if others
+            .iter()
+            .chain(kept)
+            .any(|other| replaces(state, other))
+            || overwrites(self.replies, &[state])
+        {
             return Some("STATE is another file's name");
         }
         None
