@@ -8,14 +8,14 @@
 SHELL := /bin/bash
 .SHELLFLAGS := -o pipefail -c
 SEED ?= 1
-COUNT ?= 100
+COUNT ?= 70
 TABLES ?= 100000
 WRITES ?= 100000
 BENCHES ?= 2000
 RECORDS ?= 30000
 QUESTIONS ?= 600
 SAVES ?= 1000
-FEEDS ?= 100000
+FEEDS ?= 60000
 UNPROVED := $(CURDIR)/target/unproved
 # where the toolchain copies what it loads: in memory, where that can be
 export TMPDIR := $(shell tests/scratch)
@@ -64,7 +64,7 @@ test: listed
 	rt ci
 
 built:
-	tests/archives $(UNPROVED) export_cells export_states export_tables export_feed export_bench export_saved $(PROGRAMS)
+	tests/archives $(UNPROVED) export_cells export_sizes export_wakes export_states export_tables export_feed export_bench export_saved $(PROGRAMS)
 	cd tests/compare && KEEPER_ARCHIVES=$(UNPROVED) cargo build --release --offline --quiet
 	cd host && KEEPER_ARCHIVES=$(UNPROVED) cargo build --release --offline --quiet
 
@@ -84,6 +84,8 @@ sample:
 harness:
 	rt check keeper keeper_questions wakeset counts saved
 	rt staticlib export_cells
+	rt staticlib export_sizes
+	rt staticlib export_wakes
 	rt staticlib export_states
 	rt staticlib export_tables
 	rt staticlib export_feed

@@ -1,4 +1,4 @@
-//! Links the keeper: the archives of `export_cells`, `export_states`, `export_tables`,
+//! Links the keeper: the archives of `export_cells`, `export_sizes`, `export_wakes`, `export_states`, `export_tables`,
 //! `export_feed`, `export_bench` and `export_saved` in `target/staticlib` of the repository, or in
 //! the folder that KEEPER_ARCHIVES names.
 
@@ -15,6 +15,8 @@ fn main() {
     println!("cargo:rustc-link-search=native={}", out.display());
     for name in [
         "export_cells",
+        "export_sizes",
+        "export_wakes",
         "export_states",
         "export_tables",
         "export_feed",

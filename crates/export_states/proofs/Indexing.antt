@@ -1,22 +1,19 @@
 -- The index of the links is made inside: what the callees promise of an index holds then of the memory alone. Assumes nothing.
 use mathlib.Core.Path.{_≡_, sym, ap, _∙_}
-use mathlib.Core.Bool.{Bool}
 use mathlib.Core.List.{List}
 use Prim.Native.Nat.{ℕ, _≤_}
 use Rattle.model.specs.Limits.{LINKS}
 use Rattle.model.specs.Table.{Wiring}
-use Rattle.model.specs.Sound.{Ordered}
 use Rattle.model.specs.Records.{Rec, Done}
 use Rattle.memory.specs.Layout.{stateIn}
 use Rattle.memory.specs.Ready.{Ready}
-use Rattle.links.specs.Firsts.{firstLinks, Listed, Indexed}
-use Rattle.wakeset.specs.Marks.{IsWakeSet, IsLowest}
+use Rattle.links.specs.Firsts.{firstLinks, Indexed}
 use Rattle.counts.specs.Shifts.{Turned}
 use Rattle.counts.proofs.Turning.{turned-on}
 use Rattle.request_answer.specs.declared.Reply as declared
 use Rattle.request_answer.specs.Promises.{replyOf}
 use Rattle.record_step.specs.Records.{Stepped}
-use Rattle.export_states.specs.Exported.{packed, WakeSetIs, LowestIs, StatusSet, StepIs}
+use Rattle.export_states.specs.Exported.{packed, StatusSet, StepIs}
 
 -- what `links::index` promises
 abbrev IndexOf : Wiring → List ℕ → Type 0
@@ -24,16 +21,6 @@ IndexOf w first = w .m ≤ LINKS → first ≡ firstLinks w
 
 indexed : (bytes words : List ℕ) {first : List ℕ} → IndexOf (stateIn bytes words .wiring) first → Ready (stateIn bytes words) → Indexed (stateIn bytes words) first
 indexed bytes words index ready = record { ready = ready; index = index (ready .rules .order .links) }
-
-listed : {w : Wiring} {first : List ℕ} → IndexOf w first → Ordered w → Listed w first
-listed index order = record { order = order; index = index (order .links) }
-
-module _ {bytes words first : List ℕ} {t : ℕ} where
-  pub wake-set-is : {ms : List Bool} → IndexOf (stateIn bytes words .wiring) first → IsWakeSet bytes first t ms → WakeSetIs bytes words t ms
-  wake-set-is index h = record { only = h .only words; is = λ order below. h .is words (listed index order) below }
-
-  pub lowest-is : {r : ℕ} → IndexOf (stateIn bytes words .wiring) first → IsLowest bytes first t r → LowestIs bytes words t r
-  lowest-is index h = record { powered = h .powered words; asleep = h .asleep words; is = λ order below. h .is words (listed index order) below }
 
 module _ {first bytes₀ words₀ : List ℕ} where
   pub status-set :

@@ -1,27 +1,12 @@
--- What the algorithms and a record give on a memory, with the index of the links made inside. Assumes nothing.
+-- What a status set and a record give on a memory, with the index of the links made inside. Assumes nothing.
 use mathlib.Core.Path.{_≡_}
-use mathlib.Core.Bool.{Bool}
 use mathlib.Core.List.{List}
-use Prim.Native.Nat.{ℕ, _+_, _*_, _<_, _≤_}
-use Rattle.model.specs.State.{ACTIVE, statusAt, withStatus}
-use Rattle.model.specs.WakeSet.{On, wakeMarks, lowest}
-use Rattle.model.specs.Sound.{Ordered}
+use Prim.Native.Nat.{ℕ, _+_, _*_, _<_}
+use Rattle.model.specs.State.{withStatus}
 use Rattle.model.specs.Records.{Rec, Reply}
 use Rattle.model.specs.Steps.{recordStep}
 use Rattle.memory.specs.Layout.{stateIn}
 use Rattle.memory.specs.Ready.{Full, Ready, fixed}
-use Rattle.wakeset.specs.Marks.{Sleeper}
-
--- the marks of the wake set of t, where the table is in order; in any case every mark is of a sleeping device up to t
-pub record WakeSetIs (bytes words : List ℕ) (t : ℕ) (ms : List Bool) : Type 0 where
-  pub only : (q : ℕ) → On ms q → Sleeper (stateIn bytes words) t q
-  pub is : let s = stateIn bytes words in Ordered (s .wiring) → t < s .wiring .n → ms ≡ wakeMarks (s .wiring) (s .devices .status) t
-
--- its lowest member; in any case n where t is powered, and a sleeping device up to t where t sleeps
-pub record LowestIs (bytes words : List ℕ) (t r : ℕ) : Type 0 where
-  pub powered : ACTIVE ≤ statusAt (stateIn bytes words) t → r ≡ stateIn bytes words .wiring .n
-  pub asleep : statusAt (stateIn bytes words) t < ACTIVE → Sleeper (stateIn bytes words) t r
-  pub is : let s = stateIn bytes words in Ordered (s .wiring) → t < s .wiring .n → r ≡ lowest s t
 
 -- the status of p is v, and the counts are in line, from a ready state; from any state nothing fixed changes
 pub record StatusSet (p v : ℕ) (bytes₀ words₀ bytes words : List ℕ) : Type 0 where

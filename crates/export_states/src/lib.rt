@@ -1,76 +1,14 @@
-// The algorithms over the memory of a bench and one record, as functions that Rust links.
+// A status, the soundness test and one record over the memory of a bench, as functions that Rust links.
 ghost use mathlib.Core.Path.{_≡_};
-ghost use Rattle.memory.specs.Layout.{BYTES, WORDS, stateIn};
+ghost use Rattle.memory.specs.Layout.{stateIn};
 ghost use Rattle.request_answer.specs.Promises.{replyOf};
-ghost use Rattle.parents.specs.Parents.{Above};
 ghost use Rattle.model.specs.SoundTest.{soundTest};
-ghost use Rattle.export_states.specs.Exported.{packed, WakeSetIs, LowestIs, StatusSet, StepIs};
+ghost use Rattle.export_states.specs.Exported.{packed, StatusSet, StepIs};
 use basics::word8;
 use memory::BYTES;
 use memory::WORDS;
-use model::ROWS;
 use record_kinds::Record;
 use request_answer::Reply;
-
-// How many bytes a bench has, and how many words.
-#[no_mangle]
-pub extern "C" fn keeper_bytes() -> u32
-    ensures { λ r. ⌜ r ≡ BYTES ⌝ }
-{
-    BYTES as u32
-}
-
-#[no_mangle]
-pub extern "C" fn keeper_words() -> u32
-    ensures { λ r. ⌜ r ≡ WORDS ⌝ }
-{
-    WORDS as u32
-}
-
-// The marks of the wake set of device t, by the sweep.
-#[no_mangle]
-pub extern "C" fn keeper_wake_set<'a>(
-    bytes: &'a [u8; BYTES],
-    words: &'a [u32; WORDS],
-    t: u8,
-    out: &mut [bool; ROWS],
-)
-    ensures { λ _. ⌜ WakeSetIs (now (bytes .entry)) (now (words .entry)) t (now (out .exit)) ⌝ }
-{
-    let first = links::index(bytes, words);
-    *out = wakeset::wake_set(bytes, &first, t);
-}
-
-// The same by the recursion.
-#[no_mangle]
-pub extern "C" fn keeper_wake_recursion<'a>(
-    bytes: &'a [u8; BYTES],
-    words: &'a [u32; WORDS],
-    t: u8,
-    out: &mut [bool; ROWS],
-)
-    ensures { λ _. ⌜ WakeSetIs (now (bytes .entry)) (now (words .entry)) t (now (out .exit)) ⌝ }
-{
-    let first = links::index(bytes, words);
-    *out = wakeset_recursion::wake_set(bytes, &first, t);
-}
-
-// The lowest member of the wake set of device t; n where it has none.
-#[no_mangle]
-pub extern "C" fn keeper_lowest<'a>(bytes: &'a [u8; BYTES], words: &'a [u32; WORDS], t: u8) -> u8
-    ensures { λ r. ⌜ LowestIs (now (bytes .entry)) (now (words .entry)) t r ⌝ }
-{
-    let first = links::index(bytes, words);
-    wakeset::lowest_member(bytes, &first, t)
-}
-
-// How many parents stand above device p.
-#[no_mangle]
-pub extern "C" fn keeper_parents_above<'a>(bytes: &'a [u8; BYTES], p: u8) -> u8
-    ensures { λ r. ⌜ Above (now (bytes .entry)) p r ⌝ }
-{
-    parents::parents_above(bytes, p)
-}
 
 // The status of device p becomes v, and the counts follow.
 #[no_mangle]

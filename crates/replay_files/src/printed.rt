@@ -14,12 +14,18 @@ pub fn line(resumes: bool, line: Line) -> bool {
 
 // Says that the keeper refused a piece.
 pub fn stopped(resumes: bool, number: u8) {
-    program_files::put(libc::STDERR_FILENO, replay_report::stopped(resumes, number));
+    program_files::put(
+        libc::STDERR_FILENO,
+        replay_refusals::stopped(resumes, number),
+    );
 }
 
 // Says that a bench cannot be saved.
 pub fn unsaved(resumes: bool, number: u8) {
-    program_files::put(libc::STDERR_FILENO, replay_report::unsaved(resumes, number));
+    program_files::put(
+        libc::STDERR_FILENO,
+        replay_refusals::unsaved(resumes, number),
+    );
 }
 
 // The lines of all devices.

@@ -1,5 +1,4 @@
 -- The lines that are printed. Assumes nothing.
-use mathlib.Core.Bool.{Bool}
 use mathlib.Core.List.{List, _++_}
 use Prim.Native.Nat.{ℕ}
 use lib.Dec.{eqb}
@@ -27,19 +26,3 @@ callbackText kind asked target =
     else if eqb kind 2 then ascii "callback resume " ++ decimal asked ++ ascii " for " ++ decimal target ++ ascii "\n"
     else if eqb kind 3 then ascii "callback idle " ++ decimal asked ++ ascii "\n"
     else ascii "callback unknown\n"
-
--- the program that speaks
-unfoldable pub speakerText : Bool → List ℕ
-speakerText resumes = if resumes then ascii "resume: " else ascii "replay: "
-
--- PROGRAM: piece refused NUMBER
-unfoldable pub stoppedText : Bool → ℕ → List ℕ
-stoppedText resumes number = speakerText resumes ++ ascii "piece refused " ++ decimal number ++ ascii "\n"
-
--- PROGRAM: state refused NUMBER
-unfoldable pub unsavedText : Bool → ℕ → List ℕ
-unsavedText resumes number = speakerText resumes ++ ascii "state refused " ++ decimal number ++ ascii "\n"
-
--- state refused NUMBER
-unfoldable pub unrestoredText : ℕ → List ℕ
-unrestoredText number = ascii "state refused " ++ decimal number ++ ascii "\n"

@@ -2,7 +2,7 @@
 ghost use mathlib.Core.Path.{_≡_};
 ghost use Rattle.table.specs.Answers.{answerOf};
 ghost use Rattle.replay_text.specs.Line.{lineOf};
-ghost use Rattle.replay_report.specs.Lines.{refusedText, repliesText, carriedText, callbackText, speakerText, stoppedText, unsavedText, unrestoredText};
+ghost use Rattle.replay_report.specs.Lines.{refusedText, repliesText, carriedText, callbackText};
 use basics::long8;
 use basics::long16;
 use replay_text::line::Line;
@@ -48,41 +48,4 @@ pub fn callback(kind: u8, asked: u8, target: u8) -> Line
         3 => word(field(start(), b"callback idle ", long8(asked)), b"\n"),
         _ => word(start(), b"callback unknown\n"),
     }
-}
-
-// The program that speaks.
-fn speaker(resumes: bool) -> Line
-    ensures { λ r. ⌜ r ≡ lineOf (speakerText resumes) ⌝ }
-{
-    if resumes {
-        return word(start(), b"resume: ");
-    }
-    word(start(), b"replay: ")
-}
-
-// PROGRAM: piece refused NUMBER
-pub fn stopped(resumes: bool, number: u8) -> Line
-    ensures { λ r. ⌜ r ≡ lineOf (stoppedText resumes number) ⌝ }
-{
-    word(
-        field(speaker(resumes), b"piece refused ", long8(number)),
-        b"\n",
-    )
-}
-
-// PROGRAM: state refused NUMBER
-pub fn unsaved(resumes: bool, number: u8) -> Line
-    ensures { λ r. ⌜ r ≡ lineOf (unsavedText resumes number) ⌝ }
-{
-    word(
-        field(speaker(resumes), b"state refused ", long8(number)),
-        b"\n",
-    )
-}
-
-// state refused NUMBER
-pub fn unrestored(number: u8) -> Line
-    ensures { λ r. ⌜ r ≡ lineOf (unrestoredText number) ⌝ }
-{
-    word(field(start(), b"state refused ", long8(number)), b"\n")
 }

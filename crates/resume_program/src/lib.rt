@@ -16,7 +16,7 @@ use replay_pieces::turn::Progress;
 fn refuse(number: u8) -> End
     ensures { λ r. ⌜ (r ≡ End.Refused) ⊎ (r ≡ End.Failed) ⌝ }
 {
-    if printed::line(true, replay_report::unrestored(number)) {
+    if printed::line(true, replay_refusals::unrestored(number)) {
         return End::Refused;
     }
     End::Failed
