@@ -22,7 +22,7 @@ use request_answer::Reply;
 // A question on the memory of a bench: status, user holds, usage count, child count and parents above from 0 on, else the membership of
 // device q in the wake set of device p.
 #[no_mangle]
-pub extern "C" fn keeper_ask<'a>(
+pub extern "C" fn tests_ask<'a>(
     bytes: &'a [u8; BYTES],
     words: &'a [u32; WORDS],
     question: u8,
@@ -86,7 +86,7 @@ fn outcome_code(outcome: Outcome) -> u32
 
 // The method of a kind on the memory of a bench, in place.
 #[no_mangle]
-pub extern "C" fn keeper_request(
+pub extern "C" fn tests_request(
     bytes: &mut [u8; BYTES],
     words: &mut [u32; WORDS],
     kind: u8,

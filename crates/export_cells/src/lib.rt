@@ -38,7 +38,7 @@ fn number_at<'a>(bytes: &'a [u8; BYTES], words: &'a [u32; WORDS], i: usize) -> u
 
 // A cell; 0 where there is none.
 #[no_mangle]
-pub extern "C" fn keeper_cell<'a>(
+pub extern "C" fn tests_cell<'a>(
     bytes: &'a [u8; BYTES],
     words: &'a [u32; WORDS],
     field: u8,
@@ -107,7 +107,7 @@ fn set_number(bytes: &mut [u8; BYTES], words: &mut [u32; WORDS], i: usize, value
 
 // Sets a cell, of a byte to the low byte of the value; nothing changes where there is none.
 #[no_mangle]
-pub extern "C" fn keeper_set_cell(
+pub extern "C" fn tests_set_cell(
     bytes: &mut [u8; BYTES],
     words: &mut [u32; WORDS],
     field: u8,

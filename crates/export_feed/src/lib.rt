@@ -20,7 +20,7 @@ fn code(answer: Answer) -> u32
 
 // One piece on the memory of a bench, in place.
 #[no_mangle]
-pub extern "C" fn keeper_feed<'a>(
+pub extern "C" fn tests_feed<'a>(
     bytes: &mut [u8; BYTES],
     words: &mut [u32; WORDS],
     piece: &'a [u8],

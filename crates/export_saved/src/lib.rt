@@ -9,7 +9,7 @@ use saved_answer::save_number;
 
 // Save the memory of a bench: the refusal's number, 0 where the form is written. A refusal leaves the buffer as it was.
 #[no_mangle]
-pub extern "C" fn keeper_save<'a>(
+pub extern "C" fn tests_save<'a>(
     bytes: &'a [u8; BYTES],
     words: &'a [u32; WORDS],
     out: &mut [u8],
@@ -28,7 +28,7 @@ pub extern "C" fn keeper_save<'a>(
 
 // Restore a bench from its form: the refusal's number, 0 where it is taken. The bench that is left takes the place of the old.
 #[no_mangle]
-pub extern "C" fn keeper_restore(
+pub extern "C" fn tests_restore(
     form: &[u8],
     bytes: &mut [u8; BYTES],
     words: &mut [u32; WORDS],

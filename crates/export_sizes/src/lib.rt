@@ -6,14 +6,14 @@ use memory::WORDS;
 
 // How many bytes a bench has, and how many words.
 #[no_mangle]
-pub extern "C" fn keeper_bytes() -> u32
+pub extern "C" fn tests_bytes() -> u32
     ensures { λ r. ⌜ r ≡ BYTES ⌝ }
 {
     BYTES as u32
 }
 
 #[no_mangle]
-pub extern "C" fn keeper_words() -> u32
+pub extern "C" fn tests_words() -> u32
     ensures { λ r. ⌜ r ≡ WORDS ⌝ }
 {
     WORDS as u32

@@ -12,7 +12,7 @@ use request_answer::Reply;
 
 // The status of device p becomes v, and the counts follow.
 #[no_mangle]
-pub extern "C" fn keeper_set_status(bytes: &mut [u8; BYTES], words: &mut [u32; WORDS], p: u8, v: u8)
+pub extern "C" fn tests_set_status(bytes: &mut [u8; BYTES], words: &mut [u32; WORDS], p: u8, v: u8)
     ensures { λ _. ⌜ StatusSet p v (now (bytes .entry)) (now (words .entry)) (now (bytes .exit)) (now (words .exit)) ⌝ }
 {
     let first = links::index(bytes, words);
@@ -21,7 +21,7 @@ pub extern "C" fn keeper_set_status(bytes: &mut [u8; BYTES], words: &mut [u32; W
 
 // The bench is sound.
 #[no_mangle]
-pub extern "C" fn keeper_sound<'a>(bytes: &'a [u8; BYTES], words: &'a [u32; WORDS]) -> bool
+pub extern "C" fn tests_sound<'a>(bytes: &'a [u8; BYTES], words: &'a [u32; WORDS]) -> bool
     ensures { λ r. ⌜ r ≡ soundTest (stateIn (now (bytes .entry)) (now (words .entry))) ⌝ }
 {
     sound_callback::sound(bytes, words)
@@ -37,7 +37,7 @@ fn pack(reply: Reply) -> u32
 
 // One record: the reply to it as one number.
 #[no_mangle]
-pub extern "C" fn keeper_step(
+pub extern "C" fn tests_step(
     bytes: &mut [u8; BYTES],
     words: &mut [u32; WORDS],
     kind: u8,

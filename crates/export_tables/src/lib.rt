@@ -37,7 +37,7 @@ fn write_code(outcome: Outcome) -> u32
 
 // Load a table: the refusal's number and 256 times its index, 0 where it is taken. The bench that is left takes the place of the old.
 #[no_mangle]
-pub extern "C" fn keeper_load(t: &[u8], bytes: &mut [u8; BYTES], words: &mut [u32; WORDS]) -> u32
+pub extern "C" fn tests_load(t: &[u8], bytes: &mut [u8; BYTES], words: &mut [u32; WORDS]) -> u32
     ensures { λ r. ⌜ LoadIs (now (t .entry)) (now (bytes .exit)) (now (words .exit)) r ⌝ }
 {
     let loaded = keeper::load(t);
@@ -52,7 +52,7 @@ pub extern "C" fn keeper_load(t: &[u8], bytes: &mut [u8; BYTES], words: &mut [u3
 
 // Write the table of two lists: the refusal's number and 256 times its index, 0 where it is written. A refusal leaves the buffer as it was.
 #[no_mangle]
-pub extern "C" fn keeper_write(devices: &[u8], links: &[u8], out: &mut [u8]) -> u32
+pub extern "C" fn tests_write(devices: &[u8], links: &[u8], out: &mut [u8]) -> u32
     ensures { λ r. ⌜ WriteIs (now (devices .entry)) (now (links .entry)) (now (out .entry)) (now (out .exit)) r ⌝ }
 {
     let outcome = writer::write(devices, links, out);

@@ -7,7 +7,7 @@ use model::ROWS;
 
 // The marks of the wake set of device t, by the sweep.
 #[no_mangle]
-pub extern "C" fn keeper_wake_set<'a>(
+pub extern "C" fn tests_wake_set<'a>(
     bytes: &'a [u8; BYTES],
     words: &'a [u32; WORDS],
     t: u8,
@@ -21,7 +21,7 @@ pub extern "C" fn keeper_wake_set<'a>(
 
 // The same by the recursion.
 #[no_mangle]
-pub extern "C" fn keeper_wake_recursion<'a>(
+pub extern "C" fn tests_wake_recursion<'a>(
     bytes: &'a [u8; BYTES],
     words: &'a [u32; WORDS],
     t: u8,
@@ -35,7 +35,7 @@ pub extern "C" fn keeper_wake_recursion<'a>(
 
 // The lowest member of the wake set of device t; n where it has none.
 #[no_mangle]
-pub extern "C" fn keeper_lowest<'a>(bytes: &'a [u8; BYTES], words: &'a [u32; WORDS], t: u8) -> u8
+pub extern "C" fn tests_lowest<'a>(bytes: &'a [u8; BYTES], words: &'a [u32; WORDS], t: u8) -> u8
     ensures { λ r. ⌜ LowestIs (now (bytes .entry)) (now (words .entry)) t r ⌝ }
 {
     let first = links::index(bytes, words);
@@ -44,7 +44,7 @@ pub extern "C" fn keeper_lowest<'a>(bytes: &'a [u8; BYTES], words: &'a [u32; WOR
 
 // How many parents stand above device p.
 #[no_mangle]
-pub extern "C" fn keeper_parents_above<'a>(bytes: &'a [u8; BYTES], p: u8) -> u8
+pub extern "C" fn tests_parents_above<'a>(bytes: &'a [u8; BYTES], p: u8) -> u8
     ensures { λ r. ⌜ Above (now (bytes .entry)) p r ⌝ }
 {
     parents::parents_above(bytes, p)

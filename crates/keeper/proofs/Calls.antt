@@ -13,7 +13,7 @@ use Rattle.model.specs.Sound.{Sound}
 use Rattle.model.specs.Feed.{Fed, feedOf}
 use Rattle.model.specs.Demand3.{feedAll, handedBack}
 use Rattle.model.proofs.Loading.{load-sound, load-holds, load-carry}
-use Rattle.model.proofs.Pieces.{agrees}
+use Rattle.model.proofs.Pieces.{agreed-as}
 use Rattle.table.specs.Answers.{answerOf}
 use Rattle.keeper_bench.specs.declared.Bench.{Bench}
 use Rattle.keeper_bench.specs.Translate.{stateOf}
@@ -26,7 +26,7 @@ use Rattle.keeper.proofs.feed.Kinds as feed-kinds
 use Rattle.keeper.proofs.feed.Reads as feed-reads
 
 -- ---- lists of calls that meet the contract
-pub fed : (b : Bench) (cs : List FeedCall) → Linked b cs → AllMet cs → map gave cs ≡ feedAll (stateOf b) (pieces cs)
+fed : (b : Bench) (cs : List FeedCall) → Linked b cs → AllMet cs → map gave cs ≡ feedAll (stateOf b) (pieces cs)
 unfolding Linked AllMet feedAll
 fed b [] l m = refl
 fed b (c ∷ cs) l m =
@@ -37,10 +37,6 @@ left : (b : Bench) (cs : List FeedCall) → handedBack (stateOf b) (map gave cs)
 unfolding handedBack last
 left b [] = refl
 left b (c ∷ cs) = left (c .result .bench) cs
-
-numbers : (cs : List FeedCall) → map (λ (f : Fed). f .number) (map gave cs) ≡ map (λ (c : FeedCall). gave c .number) cs
-numbers [] = refl
-numbers (c ∷ cs) = ap (λ (l : List ℕ). gave c .number ∷ l) (numbers cs)
 
 -- the first k calls
 first-linked : (b : Bench) (cs : List FeedCall) (k : ℕ) → Linked b cs → Linked b (take k cs)
@@ -55,18 +51,9 @@ first-met cs zero m = tt
 first-met [] (suc k) m = tt
 first-met (c ∷ cs) (suc k) m = (m .0, first-met cs k (m .1))
 
--- from any sound state: calls that gave what the model gives, one after another
-pub agreed-by : (s z : State) (cs : List FeedCall) → Sound s → map gave cs ≡ feedAll s (pieces cs) → handedBack s (map gave cs) ≡ z → Agreed s z cs
-agreed-by s z cs h f e =
-    let g = agrees s (pieces cs) h in
-    let y : handedBack s (feedAll s (pieces cs)) ≡ z = rw f at e in
-    record {
-      refused = sym (numbers cs) ∙ (rw (← f) at (g .refused));
-      replies = rw f (g .replies);
-      state = sym y ∙ g .state;
-      supply = rw y at (g .supply);
-      uses = rw y at (g .uses);
-    }
+-- from a bench of any sound state
+pub agreed-at : (s : State) (b : Bench) (cs : List FeedCall) → Sound s → stateOf b ≡ s → Linked b cs → AllMet cs → Agreed s (stateOf (last b cs)) cs
+agreed-at s b cs h z i m = agreed-as s _ (map gave cs) (pieces cs) h (rw z at (fed b cs i m)) (rw z at (left b cs))
 
 -- from the bench of a table
 pub agreed : (l : LoadCall) → LoadMet l → answerOf (l .result .answer) .number ≡ 0 → (cs : List FeedCall) → Linked (l .result .bench) cs → AllMet cs
@@ -77,7 +64,7 @@ agreed l h e cs i m =
     let taken = sym (ap (λ x. x .answer .number) h) ∙ e in
     record {
       fresh = record { carried = load-carry (l .table) taken; holds = load-holds (l .table) taken };
-      agreed = agreed-by (loadOf (l .table) .state) _ cs (load-sound (l .table) taken) (rw z at (fed b cs i m)) (rw z at (left b cs));
+      agreed = agreed-at (loadOf (l .table) .state) b cs (load-sound (l .table) taken) z i m;
     }
 
 -- ---- calls as the check of a caller reads them: the arguments, the result, what lent places hold at the end, and what is learnt from the

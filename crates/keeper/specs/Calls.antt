@@ -1,13 +1,11 @@
 -- "Demand 3 in exact words", said of calls of `load` and `feed`: what they were given, and what they handed back. Assumes nothing.
 use mathlib.Core.Path.{_≡_}
 use mathlib.Core.List.{List, [], _∷_, map}
-use Prim.Native.Nat.{ℕ, _<_, _+_}
-use Rattle.model.specs.State.{State, holdsAt, usage, linkCount, loadOf}
-use Rattle.model.specs.Steps.{run, repliesIn}
-use Rattle.model.specs.Sound.{Supply}
+use Prim.Native.Nat.{ℕ}
+use Rattle.model.specs.State.{State, loadOf}
 use Rattle.model.specs.Feed.{Piece, Fed, feedOf}
-use Rattle.model.specs.Demand3.{joined, refusals, takenBytes, isGet, isPut, counted, Fresh}
-use Rattle.record_answer.specs.Answers.{numberOf}
+use Rattle.model.specs.Demand3.{Fresh}
+use Rattle.model.specs.Demand3 as model
 use Rattle.keeper_bench.specs.declared.Bench.{Bench}
 use Rattle.keeper_bench.specs.Translate.{stateOf}
 use Rattle.keeper.specs.declared.Loaded as declared
@@ -56,17 +54,8 @@ AllMet (c ∷ cs) = FeedMet c × AllMet cs
 
 -- ---- the claim for the calls cs from state s to state z: the plain keeper starts from s, and is fed the joined bytes of the pieces taken. From a
 -- table, s is the state just loaded, with nothing carried and no holds
-pub record Agreed (s z : State) (cs : List FeedCall) : Type 0 where
-  -- the pieces refused are those over 4,096 bytes or without room
-  pub refused : map (λ (c : FeedCall). numberOf (c .result .answer)) cs ≡ refusals (s .carry .used) (pieces cs)
-  pub replies : joined (map gave cs) ≡ repliesIn (run s (takenBytes (s .carry .used) (pieces cs)) .log)
-  -- the whole bench, in every field
-  pub state : z ≡ run s (takenBytes (s .carry .used) (pieces cs)) .state
-  pub supply : Supply (z .wiring) (z .devices .status)
-  -- use count and counted puts are the holds at the start, counted gets and runtime links whose consumer is powered
-  pub uses :
-      let log = run s (takenBytes (s .carry .used) (pieces cs)) .log in
-      (q : ℕ) → q < z .wiring .n → usage z q + counted isPut q log ≡ holdsAt s q + counted isGet q log + linkCount (z .wiring) (z .devices .status) q
+abbrev pub Agreed : State → State → List FeedCall → Type 0
+Agreed s z cs = model.Agreed s z (map gave cs) (pieces cs)
 
 -- the same from the bench of a table just loaded, which is fresh: with no bytes carried and no holds the claim is document 01's
 pub record AgreedFrom (table : List ℕ) (b : Bench) (cs : List FeedCall) : Type 0 where

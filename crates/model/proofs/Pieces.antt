@@ -15,7 +15,7 @@ use Rattle.model.specs.Records.{replyBytes}
 use Rattle.model.specs.Steps.{Exchange, run, repliesIn}
 use Rattle.model.specs.Sound.{Sound}
 use Rattle.model.specs.Feed.{Piece, Fed, pieceAnswer, feedAnswer, over, feedOf}
-use Rattle.model.specs.Demand3.{feedAll, handedBack, joined, carriedAfter, refusals, takenBytes, Agrees, Demand3}
+use Rattle.model.specs.Demand3.{feedAll, handedBack, joined, carriedAfter, refusals, takenBytes, Agreed, Agrees, Demand3}
 use Rattle.model.proofs.Basics.{by-if}
 use Rattle.model.proofs.Counting.{at-linked}
 use Rattle.model.proofs.Keeping.{room}
@@ -154,6 +154,10 @@ agrees s ps h =
           let k = ap (λ (x : List ℕ). getD x q 0) (g .kept .linked) ∙ at-linked (run s fed .state .wiring) (run s fed .state .devices .status) q low in
           rw e (omega (arith, holds-run s fed q h, k));
     }
+
+-- of any list that gave what the definition gives
+pub agreed-as : (s z : State) (fs : List Fed) (ps : List Piece) → Sound s → fs ≡ feedAll s ps → handedBack s fs ≡ z → Agreed s z fs ps
+agreed-as s z fs ps h f e = rw (← e, f) (agrees s ps h)
 
 -- demand 3
 pub demand-3 : (table : List ℕ) (ps : List Piece) → loadOf table .answer .number ≡ 0 → Demand3 table ps

@@ -61,16 +61,27 @@ counted kinds q [] = 0
 counted kinds q (e ∷ es) = bit (eqb (e .asked .device) q and kinds (e .asked .kind) and effective (e .reply)) + counted kinds q es
 
 -- ---- the claim for a list of pieces fed from state s, the bench of a table just loaded or, by request Four, of a saved state restored: the
--- plain keeper is fed the joined bytes of the pieces taken, and "demand 3's sum counts from the saved holds"
-pub record Agrees (s : State) (ps : List Piece) : Type 0 where
-  pub refused : map (λ (f : Fed). f .number) (feedAll s ps) ≡ refusals (s .carry .used) ps
-  pub replies : joined (feedAll s ps) ≡ repliesIn (run s (takenBytes (s .carry .used) ps) .log)
-  pub state : handedBack s (feedAll s ps) ≡ run s (takenBytes (s .carry .used) ps) .state
-  pub supply : let z = handedBack s (feedAll s ps) in Supply (z .wiring) (z .devices .status)
+-- plain keeper is fed the joined bytes of the pieces taken. It speaks of what came out: for each piece its refusal's number or 0, the bytes of the
+-- joined replies, and the bench z that the last one handed back
+pub record AgreedBy (s z : State) (numbers bytes : List ℕ) (ps : List Piece) : Type 0 where
+  -- the pieces refused are those over 4,096 bytes or without room
+  pub refused : numbers ≡ refusals (s .carry .used) ps
+  pub replies : bytes ≡ repliesIn (run s (takenBytes (s .carry .used) ps) .log)
+  -- the whole bench, in every field
+  pub state : z ≡ run s (takenBytes (s .carry .used) ps) .state
+  pub supply : Supply (z .wiring) (z .devices .status)
+  -- use count and counted puts are the holds at the start ("demand 3's sum counts from the saved holds"), counted gets and runtime links
+  -- whose consumer is powered
   pub uses :
-      let z = handedBack s (feedAll s ps) in
       let log = run s (takenBytes (s .carry .used) ps) .log in
       (q : ℕ) → q < z .wiring .n → usage z q + counted isPut q log ≡ holdsAt s q + counted isGet q log + linkCount (z .wiring) (z .devices .status) q
+
+-- of what each piece gets
+abbrev pub Agreed : State → State → List Fed → List Piece → Type 0
+Agreed s z fs ps = AgreedBy s z (map (λ (f : Fed). f .number) fs) (joined fs) ps
+
+abbrev pub Agrees : State → List Piece → Type 0
+Agrees s ps = Agreed s (handedBack s (feedAll s ps)) (feedAll s ps) ps
 
 -- nothing is carried and nobody holds a device
 pub record Fresh (s : State) : Type 0 where

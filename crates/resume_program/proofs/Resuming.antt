@@ -1,21 +1,14 @@
 -- Demand 3 for what the program fed: the plain keeper starts from the saved bench. Assumes nothing.
-use mathlib.Core.Path.{_≡_, refl, sym, ap, _∙_}
-use mathlib.Core.List.{List, [], _∷_, map}
+use mathlib.Core.Path.{_≡_, sym, ap, _∙_}
+use mathlib.Core.List.{List}
 use Prim.Native.Nat.{ℕ}
-use Rattle.model.specs.Demand3.{handedBack}
-use Rattle.keeper_bench.specs.declared.Bench.{Bench}
 use Rattle.keeper_bench.specs.Translate.{stateOf}
-use Rattle.keeper.specs.Calls.{FeedCall, gave, last, Agreed}
-use Rattle.keeper.proofs.Calls.{fed, agreed-by}
+use Rattle.keeper.specs.Calls.{Agreed}
+use Rattle.keeper.proofs.Calls.{agreed-at}
 use Rattle.replay_pieces.specs.declared.turn.Progress.{Progress}
 use Rattle.saved_form.specs.Restoring.{Restored, restoreOf}
 use Rattle.saved_form.proofs.Laws.{restores-sound}
 use Rattle.resume_program.specs.Resumed.{Resumed}
-
-left : (b : Bench) (cs : List FeedCall) → handedBack (stateOf b) (map gave cs) ≡ stateOf (last b cs)
-unfolding handedBack last
-left b [] = refl
-left b (c ∷ cs) = left (c .result .bench) cs
 
 pub resumed-agrees : {bytes : List ℕ} {p : Progress} (r : Resumed bytes p) → Agreed (restoreOf bytes .state) (stateOf (p .bench)) (r .poured .calls)
 resumed-agrees {bytes} {p} r =
@@ -24,4 +17,4 @@ resumed-agrees {bytes} {p} r =
     let z : stateOf b ≡ restoreOf (r .restore .bytes) .state = ap (λ (x : Restored). x .state) (r .met) in
     let taken : restoreOf (r .restore .bytes) .number ≡ 0 = sym (ap (λ (x : Restored). x .number) (r .met)) ∙ r .taken in
     rw (← r .given, ← r .poured .bench)
-    (agreed-by (restoreOf (r .restore .bytes) .state) _ cs (restores-sound (r .restore .bytes) taken) (rw z at (fed b cs (r .poured .linked) (r .poured .met))) (rw z at (left b cs)))
+    (agreed-at (restoreOf (r .restore .bytes) .state) b cs (restores-sound (r .restore .bytes) taken) z (r .poured .linked) (r .poured .met))

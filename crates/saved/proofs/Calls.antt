@@ -17,10 +17,11 @@ use Rattle.model.specs.Demand3.{feedAll, handedBack}
 use Rattle.model.proofs.Basics.{by-if}
 use Rattle.model.proofs.Loading.{load-sound}
 use Rattle.model.proofs.Running.{run-sound}
+use Rattle.model.proofs.Pieces.{agreed-as}
 use Rattle.keeper_bench.specs.declared.Bench.{Bench}
 use Rattle.keeper_bench.specs.Translate.{stateOf}
 use Rattle.keeper.specs.Calls.{gave, pieces}
-use Rattle.keeper.proofs.Calls.{LoadRead, FeedRead, loadCall, feedCall, agreed-by}
+use Rattle.keeper.proofs.Calls.{LoadRead, FeedRead, loadCall, feedCall}
 use Rattle.saved_answer.specs.Answers.{savingOf}
 use Rattle.saved_form.specs.Form.{FORM}
 use Rattle.saved_form.specs.Saving.{Saved, saveOf}
@@ -85,7 +86,7 @@ agreed : (s : Start) → StartMet s → Taken s → (cs : List Call) → Linked 
 agreed s m e cs l n =
     let h = start-sound s m e in
     let g = went (stateAt s) (benchAt s) cs h (start-state s m) l n in
-    agreed-by (stateAt s) _ (feeds cs) h (g .fed) (g .left)
+    agreed-as (stateAt s) _ (map gave (feeds cs)) (pieces (feeds cs)) h (g .fed) (g .left)
 
 -- ---- calls as the check of a caller reads them
 pub record SaveRead : Type 1 where

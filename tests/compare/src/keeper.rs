@@ -18,26 +18,26 @@ type Words = [u32; WORDS];
 
 // A reference to an array is passed as its start, a slice as its start and its length.
 extern "C" {
-    fn keeper_bytes() -> u32;
-    fn keeper_words() -> u32;
-    fn keeper_cell(bytes: &Bytes, words: &Words, field: u8, row: u16) -> u32;
-    fn keeper_set_cell(bytes: &mut Bytes, words: &mut Words, field: u8, row: u16, value: u32);
-    fn keeper_wake_set(bytes: &Bytes, words: &Words, t: u8, out: &mut Marks);
-    fn keeper_wake_recursion(bytes: &Bytes, words: &Words, t: u8, out: &mut Marks);
-    fn keeper_lowest(bytes: &Bytes, words: &Words, t: u8) -> u8;
-    fn keeper_parents_above(bytes: &Bytes, p: u8) -> u8;
-    fn keeper_set_status(bytes: &mut Bytes, words: &mut Words, p: u8, v: u8);
-    fn keeper_sound(bytes: &Bytes, words: &Words) -> bool;
-    fn keeper_step(bytes: &mut Bytes, words: &mut Words, kind: u8, device: u8, value: u16) -> u32;
-    fn keeper_ask(bytes: &Bytes, words: &Words, question: u8, p: u8, q: u8) -> u64;
-    fn keeper_request(bytes: &mut Bytes, words: &mut Words, kind: u8, p: u8, v: u16) -> u32;
-    fn keeper_load(
+    fn tests_bytes() -> u32;
+    fn tests_words() -> u32;
+    fn tests_cell(bytes: &Bytes, words: &Words, field: u8, row: u16) -> u32;
+    fn tests_set_cell(bytes: &mut Bytes, words: &mut Words, field: u8, row: u16, value: u32);
+    fn tests_wake_set(bytes: &Bytes, words: &Words, t: u8, out: &mut Marks);
+    fn tests_wake_recursion(bytes: &Bytes, words: &Words, t: u8, out: &mut Marks);
+    fn tests_lowest(bytes: &Bytes, words: &Words, t: u8) -> u8;
+    fn tests_parents_above(bytes: &Bytes, p: u8) -> u8;
+    fn tests_set_status(bytes: &mut Bytes, words: &mut Words, p: u8, v: u8);
+    fn tests_sound(bytes: &Bytes, words: &Words) -> bool;
+    fn tests_step(bytes: &mut Bytes, words: &mut Words, kind: u8, device: u8, value: u16) -> u32;
+    fn tests_ask(bytes: &Bytes, words: &Words, question: u8, p: u8, q: u8) -> u64;
+    fn tests_request(bytes: &mut Bytes, words: &mut Words, kind: u8, p: u8, v: u16) -> u32;
+    fn tests_load(
         table: *const u8,
         table_length: usize,
         bytes: &mut Bytes,
         words: &mut Words,
     ) -> u32;
-    fn keeper_feed(
+    fn tests_feed(
         bytes: &mut Bytes,
         words: &mut Words,
         piece: *const u8,
@@ -45,7 +45,7 @@ extern "C" {
         replies: *mut u8,
         replies_length: usize,
     ) -> u32;
-    fn keeper_write(
+    fn tests_write(
         devices: *const u8,
         devices_length: usize,
         links: *const u8,
@@ -53,8 +53,8 @@ extern "C" {
         out: *mut u8,
         out_length: usize,
     ) -> u32;
-    fn keeper_save(bytes: &Bytes, words: &Words, out: *mut u8, out_length: usize) -> u32;
-    fn keeper_restore(
+    fn tests_save(bytes: &Bytes, words: &Words, out: *mut u8, out_length: usize) -> u32;
+    fn tests_restore(
         form: *const u8,
         form_length: usize,
         bytes: &mut Bytes,
@@ -65,7 +65,7 @@ extern "C" {
 /// How many bytes and words a bench has, by the keeper.
 pub fn sizes() -> (u32, u32) {
     // SAFETY: the functions only answer.
-    unsafe { (keeper_bytes(), keeper_words()) }
+    unsafe { (tests_bytes(), tests_words()) }
 }
 
 /// What writing the table of two lists leaves in a buffer: the number and the index that the lists
@@ -73,7 +73,7 @@ pub fn sizes() -> (u32, u32) {
 pub fn write(devices: &[u8], links: &[u8], buffer: &mut [u8]) -> (u32, u32) {
     // SAFETY: the function reads the two lists, writes the buffer, and nothing else.
     let code = unsafe {
-        keeper_write(
+        tests_write(
             devices.as_ptr(),
             devices.len(),
             links.as_ptr(),
@@ -91,13 +91,13 @@ impl Memory {
     /// A cell by its field and row; 0 where there is none.
     pub fn cell(&self, field: u8, row: u16) -> u32 {
         // SAFETY: see above.
-        unsafe { keeper_cell(&self.bytes, &self.words, field, row) }
+        unsafe { tests_cell(&self.bytes, &self.words, field, row) }
     }
 
     /// Sets a cell, of a byte to the low byte of the value; nothing where there is none.
     pub fn set_cell(&mut self, field: u8, row: u16, value: u32) {
         // SAFETY: see above.
-        unsafe { keeper_set_cell(&mut self.bytes, &mut self.words, field, row, value) };
+        unsafe { tests_set_cell(&mut self.bytes, &mut self.words, field, row, value) };
     }
 
     /// The wake set of a device.
@@ -105,7 +105,7 @@ impl Memory {
         // No mark is right unless it is written.
         let mut marks = [true; DEVICE_ROWS];
         // SAFETY: see above.
-        unsafe { keeper_wake_set(&self.bytes, &self.words, device, &mut marks) };
+        unsafe { tests_wake_set(&self.bytes, &self.words, device, &mut marks) };
         marks
     }
 
@@ -113,32 +113,32 @@ impl Memory {
     pub fn wake_recursion(&self, device: u8) -> Marks {
         let mut marks = [true; DEVICE_ROWS];
         // SAFETY: see above.
-        unsafe { keeper_wake_recursion(&self.bytes, &self.words, device, &mut marks) };
+        unsafe { tests_wake_recursion(&self.bytes, &self.words, device, &mut marks) };
         marks
     }
 
     /// The lowest member of the wake set of a device; n where it has none.
     pub fn lowest(&self, device: u8) -> u8 {
         // SAFETY: see above.
-        unsafe { keeper_lowest(&self.bytes, &self.words, device) }
+        unsafe { tests_lowest(&self.bytes, &self.words, device) }
     }
 
     /// How many parents stand above a device.
     pub fn parents_above(&self, device: u8) -> u8 {
         // SAFETY: see above.
-        unsafe { keeper_parents_above(&self.bytes, device) }
+        unsafe { tests_parents_above(&self.bytes, device) }
     }
 
     /// The status of a device becomes v, and the counts follow.
     pub fn set_status(&mut self, device: u8, v: u8) {
         // SAFETY: see above.
-        unsafe { keeper_set_status(&mut self.bytes, &mut self.words, device, v) };
+        unsafe { tests_set_status(&mut self.bytes, &mut self.words, device, v) };
     }
 
     /// Whether the bench is sound.
     pub fn sound(&self) -> bool {
         // SAFETY: see above.
-        unsafe { keeper_sound(&self.bytes, &self.words) }
+        unsafe { tests_sound(&self.bytes, &self.words) }
     }
 
     /// One record: its reply.
@@ -146,14 +146,14 @@ impl Memory {
         let [kind, device, low, high] = record;
         let value = u16::from_le_bytes([low, high]);
         // SAFETY: see above.
-        let reply = unsafe { keeper_step(&mut self.bytes, &mut self.words, kind, device, value) };
+        let reply = unsafe { tests_step(&mut self.bytes, &mut self.words, kind, device, value) };
         reply.to_le_bytes()
     }
 
     /// A question by its number: 256 times what is told, or the number of the refusal.
     pub fn ask(&self, question: u8, device: u8, other: u8) -> u64 {
         // SAFETY: see above.
-        unsafe { keeper_ask(&self.bytes, &self.words, question, device, other) }
+        unsafe { tests_ask(&self.bytes, &self.words, question, device, other) }
     }
 
     /// The method of a record's kind: its reply, 21 alone for a bench that isn't sound.
@@ -162,7 +162,7 @@ impl Memory {
         let value = u16::from_le_bytes([low, high]);
         // SAFETY: see above.
         let reply =
-            unsafe { keeper_request(&mut self.bytes, &mut self.words, kind, device, value) };
+            unsafe { tests_request(&mut self.bytes, &mut self.words, kind, device, value) };
         reply.to_le_bytes()
     }
 
@@ -171,7 +171,7 @@ impl Memory {
     pub fn load(&mut self, table: &[u8]) -> (u32, u32) {
         let (start, length) = (table.as_ptr(), table.len());
         // SAFETY: see above.
-        let code = unsafe { keeper_load(start, length, &mut self.bytes, &mut self.words) };
+        let code = unsafe { tests_load(start, length, &mut self.bytes, &mut self.words) };
         (code % 256, code / 256)
     }
 
@@ -180,7 +180,7 @@ impl Memory {
     pub fn feed(&mut self, piece: &[u8], replies: &mut [u8]) -> Result<usize, u32> {
         // SAFETY: see above.
         let answer = unsafe {
-            keeper_feed(
+            tests_feed(
                 &mut self.bytes,
                 &mut self.words,
                 piece.as_ptr(),
@@ -199,7 +199,7 @@ impl Memory {
     pub fn save(&self, buffer: &mut [u8]) -> u32 {
         let (start, length) = (buffer.as_mut_ptr(), buffer.len());
         // SAFETY: see above.
-        unsafe { keeper_save(&self.bytes, &self.words, start, length) }
+        unsafe { tests_save(&self.bytes, &self.words, start, length) }
     }
 
     /// What restoring a form leaves in this memory: the number that it is refused with, 0 where it
@@ -207,7 +207,7 @@ impl Memory {
     pub fn restore(&mut self, form: &[u8]) -> u32 {
         let (start, length) = (form.as_ptr(), form.len());
         // SAFETY: see above.
-        unsafe { keeper_restore(start, length, &mut self.bytes, &mut self.words) }
+        unsafe { tests_restore(start, length, &mut self.bytes, &mut self.words) }
     }
 }
 

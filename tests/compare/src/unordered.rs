@@ -6,7 +6,7 @@ use crate::keeper::Memory;
 use second::generate::random::Random;
 use second::{DEVICE_ROWS, LINK_ROWS};
 
-/// Fields of the memory, as `keeper_cell` numbers them.
+/// Fields of the memory, as `tests_cell` numbers them.
 const PARENT: u8 = 0;
 const IGNORE: u8 = 1;
 const STATUS: u8 = 2;
