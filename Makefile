@@ -1,5 +1,6 @@
 # make run       the program replay, compiled without a proof, on the worked day of examples/day: some seconds
 # make programs  the programs replay, resume, write and list, proved and built, in host/target/release/
+# make c-host    libkeeper.a and keeper.h for a C host, proved and built, in target/c-host/; 'make built hosted' checks them from C without a proof
 # make scripts   the test programs on their scripts, proved, built and run
 # make test      the gate: every check, ending with the toolchain's verdict
 # make sample    the definitions against the second implementation; SEED and COUNT choose the cases
@@ -24,7 +25,7 @@ PIN := $(shell command -v taskset > /dev/null && echo taskset -c 0)
 
 PROGRAMS := replay_program resume_program write_program list_program
 
-.PHONY: run programs scripts test built listed second sample harness compare states feeds replayed bench
+.PHONY: run programs c-host scripts test built listed second sample harness compare states feeds replayed hosted bench
 
 DAY := examples/day
 
@@ -49,6 +50,17 @@ programs:
 	@echo "step 3 of 3: building the programs"
 	@cd host && cargo build --release --offline --quiet
 
+# the calls for a C host: the library, which a C or C++ program is linked with, and its header
+c-host:
+	@echo "step 1 of 2: proving the keeper and the calls, crate by crate"
+	@rt check c_host 2>&1 | grep --line-buffered -E '^rt:| error: '
+	@echo "step 2 of 2: building the proved library"
+	@rt staticlib c_host 2>&1 | grep --line-buffered -E '^rt: target| error: '
+	@mkdir -p target/c-host
+	@cp target/staticlib/libc_host.a target/c-host/libkeeper.a
+	@cp include/keeper.h target/c-host/keeper.h
+	@echo "target/c-host/libkeeper.a and target/c-host/keeper.h"
+
 scripts:
 	rt check test_tables test_writer test_records test_pieces
 	target/bin/test_tables < crates/test_tables/stdin
@@ -60,11 +72,11 @@ scripts:
 # two at a time.
 test: listed
 	$(MAKE) -j2 --output-sync=target built second
-	$(MAKE) -j2 --output-sync=target feeds sample states replayed
+	$(MAKE) -j2 --output-sync=target feeds sample states replayed hosted
 	rt ci
 
 built:
-	tests/archives $(UNPROVED) export_cells export_sizes export_wakes export_states export_tables export_feed export_bench export_saved $(PROGRAMS)
+	tests/archives $(UNPROVED) export_cells export_sizes export_wakes export_states export_tables export_feed export_bench export_saved c_host $(PROGRAMS)
 	cd tests/compare && KEEPER_ARCHIVES=$(UNPROVED) cargo build --release --offline --quiet
 	cd host && KEEPER_ARCHIVES=$(UNPROVED) cargo build --release --offline --quiet
 
@@ -119,6 +131,10 @@ replayed:
 	host/target/release/write examples/wiring/list.txt target/wiring.bin
 	cmp target/wiring.bin examples/wiring/table.bin
 	host/target/release/list examples/wiring/table.bin | cmp - examples/wiring/sorted.txt
+
+# the calls for a C host, from C: the header, the example host, and the header's numbers
+hosted:
+	tests/c_host/check $(UNPROVED)/libc_host.a
 
 bench: harness
 	$(PIN) tests/compare/target/release/compare bench

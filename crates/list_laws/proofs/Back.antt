@@ -7,10 +7,9 @@ use native.Mathlib.Omega.{arith}
 use native.Mathlib.Decide.{ℕ-discrete}
 use lib.ListN.{length, getD, take, drop, length-drop}
 use lib.Seq.{getD-drop, take-all}
-use lib.Dec.{eqb}
 use borrow.Author.Tests.{eqb-true}
 use Rattle.model.specs.Limits.{NONE}
-use Rattle.model.specs.Logic.{if_then_else_, _and_, _or_, all}
+use Rattle.model.specs.Logic.{if_then_else_, _and_, all}
 use Rattle.model.specs.Table.{devicesIn, linksIn, deviceByte, linkByte, parentGood, endsGood, deviceGood, linkFits, linkGood, lengthGood}
 use Rattle.model.proofs.Basics.{few-devices}
 use Rattle.model.proofs.Logic.{tests, all-iff}

@@ -17,6 +17,7 @@ pub mod Running
 pub mod Loading
 pub mod Pieces
 pub mod Questions
+pub mod Answers
 pub mod Day
 pub mod Chains
 pub mod Loops

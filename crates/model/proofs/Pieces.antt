@@ -100,6 +100,11 @@ module _ (s : State) (h : Sound s) (p : Piece) where
       go true e = joined-taken ps e (f (run s (p .bytes) .state) (run-sound s (p .bytes) h))
       go false e = joined-refused ps e (f s h)
 
+-- a piece leads from a sound state to a sound one, taken or not
+pub fed-sound : (s : State) (p : Piece) → Sound s → Sound (feedOf s p .state)
+unfolding feedOf
+fed-sound s p h = by-if (λ (f : Fed). Sound (f .state)) _ _ _ (λ e. run-sound s (p .bytes) h) (λ e. h)
+
 -- ---- the buffer
 -- its length stays, and so do the bytes past the replies, whether the piece is taken or not
 room-taken : (s : State) → Sound s → (p : Piece) → feedAnswer s p ≡ 0 → 4 * length (run s (p .bytes) .log) ≤ length (p .buffer)

@@ -12,12 +12,10 @@ use borrow.Fn.Kinds as Ends
 use Rattle.model.specs.State.{State, Loaded}
 use Rattle.model.specs.Sound.{Sound}
 use Rattle.model.specs.Steps.{repliesIn, run}
-use Rattle.model.specs.Feed.{Piece, Fed, feedOf}
+use Rattle.model.specs.Feed.{Fed, feedOf}
 use Rattle.model.specs.Demand3.{feedAll, handedBack}
-use Rattle.model.proofs.Basics.{by-if}
 use Rattle.model.proofs.Loading.{load-sound}
-use Rattle.model.proofs.Running.{run-sound}
-use Rattle.model.proofs.Pieces.{agreed-as}
+use Rattle.model.proofs.Pieces.{fed-sound, agreed-as}
 use Rattle.keeper_bench.specs.declared.Bench.{Bench}
 use Rattle.keeper_bench.specs.Translate.{stateOf}
 use Rattle.keeper.specs.Calls.{gave, pieces}
@@ -45,11 +43,6 @@ kept {s} h w r e m z f n =
     let number : saveOf s (w .buffer) .number ≡ 0 = ap (λ (x : Saved). x .number) saved ∙ z in
     let bytes : r .bytes ≡ take FORM (saveOf s (w .buffer) .buffer) = f ∙ ap (λ (x : Saved). take FORM (x .buffer)) (sym saved) in
     ap (λ (x : Restored). x .state) (n ∙ ap restoreOf bytes ∙ saved-restores s (w .buffer) number h)
-
--- a piece leads from a sound state to a sound one, taken or not
-fed-sound : (s : State) (p : Piece) → Sound s → Sound (feedOf s p .state)
-unfolding feedOf
-fed-sound s p h = by-if (λ (f : Fed). Sound (f .state)) _ _ _ (λ e. run-sound s (p .bytes) h) (λ e. h)
 
 -- ---- a list of them, from a bench of state s
 record Went (s : State) (b : Bench) (cs : List Call) : Type 0 where

@@ -1,7 +1,7 @@
 -- The laws of the saved state: a sound bench has exactly one form, and equal forms are equal benches. What a form holds is the memory, which
 -- determines the state; so no byte of it is free. Assumes nothing.
 use mathlib.Core.Path.{_≡_, refl, sym, _∙_, ap}
-use mathlib.Core.Bool.{true, not}
+use mathlib.Core.Bool.{true}
 use mathlib.Core.List.{List, _∷_, _++_}
 use Prim.Native.Nat.{ℕ, _+_, _*_, _≤_}
 use native.Mathlib.Omega.{arith}

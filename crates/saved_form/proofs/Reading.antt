@@ -9,7 +9,7 @@ use native.Mathlib.Decide.{ℕ-discrete}
 use lib.ListN.{length, replicate, length-replicate, drop-of-length-le}
 use lib.Dec.{eqb}
 use borrow.Author.Tests.{le-ltb, eq-eqb, ne-eqb, eqb-true, not-false}
-use Rattle.model.specs.Logic.{if_then_else_, _and_}
+use Rattle.model.specs.Logic.{if_then_else_}
 use Rattle.model.specs.State.{emptyState}
 use Rattle.model.specs.Sound.{Sound}
 use Rattle.model.proofs.Basics.{by-if}
@@ -20,7 +20,7 @@ use Rattle.memory.proofs.Inverse.{shaped-in}
 use Rattle.saved_form.specs.Words.{wordsFrom}
 use Rattle.saved_form.specs.Form.{HEADER, FORM}
 use Rattle.saved_form.specs.Restoring.{spans, known, version1, width, lengthBy, cellsIn, laid, bytesBy, wordsBy, stateBy}
-use Rattle.saved_form.specs.Restoring.{marked, versionIn, headAnswer, Restored, refusal, judgedOf, restoreOf}
+use Rattle.saved_form.specs.Restoring.{marked, versionIn, headAnswer, Restored, judgedOf, restoreOf}
 use Rattle.saved_form.proofs.Words.{words-count}
 
 -- ---- the two arrays of a form

@@ -9,13 +9,14 @@ use lib.Seq.{take-all, take-at, drop-at, drop-drop}
 use borrow.Author.Tests.{le-leb, lt-leb}
 use Rattle.model.specs.Logic.{if_then_else_}
 use Rattle.model.specs.Feed.{over}
-use Rattle.memory.specs.Layout.{BYTES, WORDS}
+use Rattle.memory.specs.Layout.{BYTES, WORDS, stateIn}
+use Rattle.memory.proofs.Inverse.{bytes-of, words-of}
 use Rattle.saved_form.specs.Words.{wordBytes}
-use Rattle.saved_form.specs.Form.{HEADER, FORM, header}
+use Rattle.saved_form.specs.Form.{HEADER, FORM, header, form}
 use Rattle.saved_form.specs.Restoring.{laid}
 use Rattle.saved_form.proofs.Words.{bytes-count}
 use Rattle.saved_copy.proofs.Parts.{part-long, laid-part}
-use Rattle.saved_write.specs.Writes.{formIn, WriteIs}
+use Rattle.saved_write.specs.Writes.{WriteIs}
 
 -- ---- parts by their ends, as the code lends them
 pub bytes-put : (from xs ys : List ℕ) (at : ℕ) → at + length from ≤ length xs
@@ -51,8 +52,13 @@ headed : (d : List ℕ) → laid d 0 header ≡ header ++ drop HEADER d
 unfolding laid header
 headed d = refl
 
+-- the form of the state in two arrays, from the arrays themselves
+abbrev formIn : List ℕ → List ℕ → List ℕ
+formIn bytes words = header ++ (bytes ++ wordBytes words)
+
 module _ (bytes words d : List ℕ) (b : length bytes ≡ BYTES) (w : length words ≡ WORDS) where
-  pub formed : {x y z : List ℕ} → x ≡ laid d 0 header → y ≡ laid x HEADER bytes → z ≡ laid y (HEADER + BYTES) (wordBytes words) → z ≡ over (formIn bytes words) d
+  pub formed : {x y z : List ℕ} → x ≡ laid d 0 header → y ≡ laid x HEADER bytes → z ≡ laid y (HEADER + BYTES) (wordBytes words) → z ≡ over (form (stateIn bytes words)) d
+  unfolding form
   formed {x} {y} {z} f g h =
       let n : length (wordBytes words) ≡ 4 * WORDS = bytes-count words ∙ ap (λ (k : ℕ). 4 * k) w in
       let k = header-long in
@@ -61,13 +67,13 @@ module _ (bytes words d : List ℕ) (b : length bytes ≡ BYTES) (w : length wor
       let rest = onto (header ++ bytes) d (wordBytes words) (HEADER + BYTES) (4 * WORDS) l n in
       let long : length (formIn bytes words) ≡ HEADER + BYTES + 4 * WORDS =
       length-append header (bytes ++ wordBytes words) ∙ (let q = length-append bytes (wordBytes words) in omega arith) in
-      h ∙ rw (first, rest, append-assoc header bytes (wordBytes words), long)
+      rw (bytes-of bytes words b, words-of bytes words w) (h ∙ rw (first, rest, append-assoc header bytes (wordBytes words), long))
 
 -- ---- what writing answers
 pub no-room : {bytes words out : List ℕ} → length out < FORM → WriteIs bytes words out false out
 unfolding if_then_else_
 no-room l = record { room = sym (lt-leb _ _ l); buffer = rw (lt-leb _ _ l) }
 
-pub written : {bytes words out after : List ℕ} → FORM ≤ length out → after ≡ over (formIn bytes words) out → WriteIs bytes words out true after
+pub written : {bytes words out after : List ℕ} → FORM ≤ length out → after ≡ over (form (stateIn bytes words)) out → WriteIs bytes words out true after
 unfolding if_then_else_
 written l e = record { room = sym (le-leb _ _ l); buffer = rw (le-leb _ _ l) e }

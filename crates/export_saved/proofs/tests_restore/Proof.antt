@@ -8,9 +8,10 @@ use Rattle.export_saved.proofs.tests_restore.Tie as tie
 -- the one exit
 returns : tie.Need-returns
 returns c =
-    let restored = c .before .before .before .before .before .restore .ensures in
+    let numbered = c .before in
+    let restored = numbered .before .before .before .before .restore .ensures in
     record {
-      number = c .word8 .ensures ∙ (c .before .restore-number .ensures ∙ ap (λ (s : Restored). s .number) restored);
+      number = c .word8 .ensures ∙ (numbered .restore-number .ensures ∙ ap (λ (s : Restored). s .number) restored);
       state = ap (λ (s : Restored). s .state) restored;
     }
 

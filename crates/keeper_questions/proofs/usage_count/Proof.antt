@@ -2,12 +2,15 @@
 use mathlib.Core.Path.{_∙_}
 use native.Mathlib.Omega.{arith}
 use Rattle.model.proofs.Logic.{tests}
-use Rattle.keeper_questions.proofs.Telling.{answered, uses-fit}
+use Rattle.model.specs.Limits.{LINKS}
+use Rattle.model.proofs.Answers.{usage-low}
+use Rattle.keeper_questions.proofs.Telling.{answered}
 use borrow.Author.Needs.{needs}
 use Rattle.keeper_questions.proofs.usage_count.Statement.{statement}
 use Rattle.keeper_questions.proofs.usage_count.Tie as tie
 
 returns : tie.Need-returns
+unfolding LINKS
 returns c =
     let u = c .before .before in
     let h = u .before .before .before .before in
@@ -15,7 +18,7 @@ returns c =
     let bytes = a .before .args .t1 .bytes in
     let e = rw (h .holds .ensures bytes, u .before .linked .ensures bytes) at (u .usage .ensures) in
     answered (a .about .ensures) (c .tell-number .ensures)
-    (λ s k. let l = uses-fit s (a .before .args .device) (simp tests at k) in c .before .number64 .ensures (omega arith) ∙ e)
+    (λ s k. let l = usage-low s (a .before .args .device) (simp tests at k) in c .before .number64 .ensures (omega arith) ∙ e)
 
 pub usage-count-spec : {M : Type 1} → statement M
 usage-count-spec =

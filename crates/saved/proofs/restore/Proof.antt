@@ -1,7 +1,7 @@
 -- `saved::restore` meets its contract: what was read is refused with its number, or judged. Assumes nothing.
 use mathlib.Core.Path.{_∙_}
 use Rattle.saved_answer.proofs.Numbers.{restoring-refused, restoring-taken}
-use Rattle.saved.proofs.Answers.{restore-refused, restore-read}
+use Rattle.saved_read.proofs.Judging.{restore-refused, restore-read}
 use borrow.Author.Needs.{needs}
 use Rattle.saved.proofs.restore.Statement.{statement}
 use Rattle.saved.proofs.restore.Tie as tie

@@ -1,23 +1,11 @@
 -- `saved::save` meets its contract: the soundness test, then what was written. Assumes nothing.
-use mathlib.Core.Path.{_≡_}
-use lib.ListN.{length}
 use borrow.Author.Tests.{not-true, not-false}
-use Rattle.model.specs.Limits.{ROWS, LINKS}
 use Rattle.model.proofs.Chains.{passed, failed}
-use Rattle.memory.specs.Layout.{BYTES, WORDS}
-use Rattle.saved.proofs.Answers.{save-unsound, saved-room, saved-written}
+use Rattle.saved_write.proofs.Saving.{saved-room, saved-written}
+use Rattle.saved.proofs.Answers.{save-unsound}
 use borrow.Author.Needs.{needs}
 use Rattle.saved.proofs.save.Statement.{statement}
 use Rattle.saved.proofs.save.Tie as tie
-
--- both arrays have all their cells
-many-bytes : (c : tie.Start) → length (c .args .bench .bytes) ≡ BYTES
-unfolding BYTES ROWS LINKS
-many-bytes c = let g = c .good .0 in search needs
-
-many-words : (c : tie.Start) → length (c .args .bench .words) ≡ WORDS
-unfolding WORDS ROWS
-many-words c = let g = c .good .0 in search needs
 
 -- not sound
 returns : tie.Need-returns
@@ -28,17 +16,14 @@ returns-2 : tie.Need-returns-2
 returns-2 c =
     let wrote = c .before .before .before in
     let tested = wrote .before .before .before .before in
-    let start = tested .before .before .before in
-    saved-room (start .args .bench) _ (passed (tested .before .sound .ensures .test) (tested .if1 .left)) (wrote .write .ensures) (not-true _ (c .if2 .taken))
+    saved-room _ _ _ (passed (tested .before .sound .ensures .test) (tested .if1 .left)) (wrote .write .ensures) (not-true _ (c .if2 .taken))
 
 -- written
 returns-3 : tie.Need-returns-3
 returns-3 c =
     let wrote = c .before .before .before in
     let tested = wrote .before .before .before .before in
-    let start = tested .before .before .before in
-    saved-written (start .args .bench) _ (passed (tested .before .sound .ensures .test) (tested .if1 .left)) (wrote .write .ensures) (not-false _ (c .if2 .left))
-    (many-bytes start) (many-words start)
+    saved-written _ _ _ (passed (tested .before .sound .ensures .test) (tested .if1 .left)) (wrote .write .ensures) (not-false _ (c .if2 .left))
 
 pub save-spec : {M : Type 1} → statement M
 save-spec =

@@ -5,7 +5,9 @@ use Rattle.saved_read.proofs.place.Statement.{statement}
 use Rattle.saved_read.proofs.place.Tie as tie
 
 lay-words-requires : tie.Need-lay-words-requires
-lay-words-requires c κs = let chosen = c .before in fits-words (chosen .before .before .before .before .pre) (chosen .if1 .taken)
+lay-words-requires c κs =
+    let chosen = c .before in
+    fits-words (chosen .before .before .before .before .pre) (chosen .if1 .taken)
 
 -- words
 returns : tie.Need-returns
@@ -15,7 +17,9 @@ returns c =
     placed-words _ _ _ _ (chosen .if1 .taken) (laid .lay-words .ensures)
 
 lay-bytes-requires : tie.Need-lay-bytes-requires
-lay-bytes-requires c κs = let chosen = c .before in fits-bytes (chosen .before .before .before .before .pre) (chosen .if1 .left)
+lay-bytes-requires c κs =
+    let chosen = c .before in
+    fits-bytes (chosen .before .before .before .before .pre) (chosen .if1 .left)
 
 -- bytes
 returns-2 : tie.Need-returns-2

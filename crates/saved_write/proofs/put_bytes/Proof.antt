@@ -6,8 +6,9 @@ use Rattle.saved_write.proofs.put_bytes.Tie as tie
 
 returns : tie.Need-returns
 returns c =
-    let start = c .before .before .before .before .before .before in
-    bytes-put (start .args .from .now) _ _ _ (start .pre) (c .before .before .copy-bytes .ensures)
+    let copied = c .before .before in
+    let start = copied .before .before .before .before in
+    bytes-put (start .args .from .now) _ _ _ (start .pre) (copied .copy-bytes .ensures)
 
 pub put-bytes-spec : {M : Type 1} → statement M
 put-bytes-spec =

@@ -6,8 +6,9 @@ use Rattle.saved_write.proofs.put_words.Tie as tie
 
 returns : tie.Need-returns
 returns c =
-    let start = c .before .before .before .before .before .before in
-    words-put (start .args .from .now) _ _ _ (start .pre) (c .before .before .write-words .ensures)
+    let written = c .before .before in
+    let start = written .before .before .before .before in
+    words-put (start .args .from .now) _ _ _ (start .pre) (written .write-words .ensures)
 
 pub put-words-spec : {M : Type 1} → statement M
 put-words-spec =

@@ -27,12 +27,15 @@ returns c = no-room (c .if1 .taken)
 returns-2 : tie.Need-returns-2
 unfolding FORM BYTES WORDS ROWS LINKS header
 returns-2 c =
-    let second = c .before .before .before .before .before .before .before in
-    let first = second .before .before .before .before .before in
+    let third = c .before .before in
+    let words-lent = third .before .before in
+    let second = words-lent .before .before .before in
+    let bytes-lent = second .before .before in
+    let first = bytes-lent .before .before .before in
     let tested = first .before .before .before in
     let start = tested .before .before in
     written (tested .if1 .left)
-    (formed _ _ _ (many-bytes start) (many-words start) (first .put-bytes .ensures) (second .put-bytes2 .ensures) (c .before .before .put-words .ensures))
+    (formed _ _ _ (many-bytes start) (many-words start) (first .put-bytes .ensures) (second .put-bytes2 .ensures) (third .put-words .ensures))
 
 pub write-spec : {M : Type 1} → statement M
 write-spec =
