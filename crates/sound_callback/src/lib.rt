@@ -146,7 +146,7 @@ fn resume_open<'a>(
     if status(bytes, p) != RESUMING {
         return false;
     }
-    let clear = both(!found.barred, !wakeset::bars(bytes, words, t));
+    let clear = both(!found.barred, !wake_rules::bars(bytes, words, t));
     both(others_steady(bytes, p), clear)
 }
 

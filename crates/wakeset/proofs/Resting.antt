@@ -1,42 +1,21 @@
--- What the code's tests tell: a device that they lead to is lower and sleeps; with the index of the links they lead to exactly the lower
--- sleeping devices that p rests on. Assumes nothing.
+-- Where the code's tests lead: to lower sleeping devices; with the index of the links, to exactly those that p rests on. Assumes nothing.
 use mathlib.Core.Path.{_≡_, refl, sym}
 use mathlib.Core.Bool.{true}
 use mathlib.Core.List.{List}
-use mathlib.Core.Logic.{_⊎_, inl, inr, ⊎-elim, _↔_}
+use mathlib.Core.Logic.{_⊎_, inl, inr, ⊎-elim}
 use Prim.Native.Nat.{ℕ, _+_, _<_, _≤_}
-use native.Mathlib.Omega.{arith}
 use lib.ListN.{getD}
 use Rattle.model.specs.Limits.{LINKS, NONE}
 use Rattle.model.specs.Table.{Wiring}
 use Rattle.model.specs.State.{State}
 use Rattle.model.specs.WakeSet.{Sleeping, Needs, child, link}
 use Rattle.model.proofs.Basics.{none-rows}
-use Rattle.model.proofs.Logic.{tests, and-iff, lt-iff}
+use Rattle.model.proofs.Logic.{tests}
 use Rattle.links.specs.Firsts.{firstLink, Listed}
 use Rattle.links.proofs.Order.{link-of, of-link, first-at, next-at, next-fits}
-use Rattle.wakeset.specs.Marks.{onParent, onSupplier, sleepingParent, sleepingSupplier}
+use Rattle.wake_rules.specs.Marks.{onParent, onSupplier}
+use Rattle.wake_rules.proofs.Resting.{lower-parent, lower-supplier, parent-tests, supplier-tests, parent-needs}
 use Rattle.wakeset.specs.Sweep.{Follows}
-
--- ---- lower, and asleep
--- the parent, or the supplier by link i, is lower than p
-pub lower-parent : (w : Wiring) (p : ℕ) → onParent w p ≡ true → getD (w .parent) p 0 < p
-unfolding onParent
-lower-parent w p e = (simp tests at e) .0
-
-pub lower-supplier : (w : Wiring) (p i : ℕ) → onSupplier w p i ≡ true → getD (w .supplier) i 0 < p
-unfolding onSupplier
-lower-supplier w p i e = (simp tests at e) .0
-
--- the code's tests: p rests on it, and it sleeps
-pub parent-tests : (s : State) (p : ℕ) → (sleepingParent s p ≡ true) ↔ ((onParent (s .wiring) p ≡ true) × Sleeping (s .devices .status) (getD (s .wiring .parent) p 0))
-unfolding sleepingParent
-parent-tests s p = (λ e. simp (and-iff, lt-iff) at e, λ f. simp (and-iff, lt-iff) f)
-
-pub supplier-tests : (s : State) (p i : ℕ) →
-    (sleepingSupplier s p i ≡ true) ↔ ((onSupplier (s .wiring) p i ≡ true) × Sleeping (s .devices .status) (getD (s .wiring .supplier) i 0))
-unfolding sleepingSupplier
-supplier-tests s p i = (λ e. simp (and-iff, lt-iff) at e, λ f. simp (and-iff, lt-iff) f)
 
 -- what follows p, in any memory and with any index
 pub record Lower (s : State) (p q : ℕ) : Type 0 where
@@ -52,10 +31,6 @@ follows-lower s first p q =
     record { below = rw (f .link .is) (lower-supplier (s .wiring) p (f .at) (t .0)); asleep = rw (f .link .is) (t .1) })
 
 -- ---- what p rests on
-pub parent-needs : (w : Wiring) (p : ℕ) → p ≤ NONE → onParent w p ≡ true → Needs w p (getD (w .parent) p 0)
-unfolding onParent
-parent-needs w p few e = let f = simp tests at e in let z = f .0 in child refl (λ y. omega arith) (f .1)
-
 -- the links of p are those from its first to the next device's first
 module _ {w : Wiring} {first : List ℕ} (h : Listed w first) (p : ℕ) (few : p ≤ NONE) where
   start : getD first p 0 ≡ firstLink w p

@@ -1,34 +1,15 @@
--- What a device rests on, as the code tests it, and what is promised of a wake set. Assumes nothing.
+-- What is promised of a wake set. Assumes nothing.
 use mathlib.Core.Path.{_≡_}
 use mathlib.Core.Bool.{Bool, false}
 use mathlib.Core.List.{List}
-use Prim.Native.Nat.{ℕ, _<_, _≤_, _%_}
-use lib.ListN.{getD}
-use lib.Dec.{ltb, eqb}
+use Prim.Native.Nat.{ℕ, _<_, _≤_}
 use Rattle.model.specs.Logic.{_and_, any}
-use Rattle.model.specs.Table.{Wiring}
-use Rattle.model.specs.State.{State, ACTIVE, sleeping, statusAt}
+use Rattle.model.specs.State.{State, ACTIVE, statusAt}
 use Rattle.model.specs.WakeSet.{Sleeping, marked, On, wakeMarks, lowest}
 use Rattle.model.specs.Requests.{barred, othersBarred}
 use Rattle.memory.specs.Layout.{stateIn}
 use Rattle.links.specs.Firsts.{Listed}
 use Rattle.wakeset.specs.declared.Reach.{Reach}
-
--- ---- what a device rests on
--- p's parent is lower and counts its children
-unfoldable pub onParent : Wiring → ℕ → Bool
-onParent w p = ltb (getD (w .parent) p 0) p and eqb (getD (w .ignore) (getD (w .parent) p 0) 0) 0
-
--- link i is a runtime link to a device lower than p
-unfoldable pub onSupplier : Wiring → ℕ → ℕ → Bool
-onSupplier w p i = ltb (getD (w .supplier) i 0) p and eqb (getD (w .flags) i 0 % 2) 1
-
--- the same, and the parent or the supplier sleeps
-unfoldable pub sleepingParent : State → ℕ → Bool
-sleepingParent s p = onParent (s .wiring) p and sleeping (statusAt s (getD (s .wiring .parent) p 0))
-
-unfoldable pub sleepingSupplier : State → ℕ → ℕ → Bool
-sleepingSupplier s p i = onSupplier (s .wiring) p i and sleeping (statusAt s (getD (s .wiring .supplier) i 0))
 
 -- ---- the wake set of t
 -- q sleeps, and is t or lower

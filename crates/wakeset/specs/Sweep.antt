@@ -10,7 +10,8 @@ use Rattle.model.specs.State.{State, ACTIVE, statusAt}
 use Rattle.model.specs.WakeSet.{InWake, Falls, marked, On}
 use Rattle.memory.specs.Layout.{stateIn}
 use Rattle.links.specs.Firsts.{Listed}
-use Rattle.wakeset.specs.Marks.{sleepingParent, sleepingSupplier, Sleeper}
+use Rattle.wake_rules.specs.Marks.{sleepingParent, sleepingSupplier}
+use Rattle.wakeset.specs.Marks.{Sleeper}
 
 -- ---- the devices that a step marks
 -- q, where the test holds

@@ -1,12 +1,8 @@
 // The wake set of a device in one sweep down the device numbers, its lowest member, and whether another member is barred.
 ghost use mathlib.Core.Path.{_≡_};
-ghost use mathlib.Core.List.{List};
-ghost use Prim.Native.Nat.{ℕ};
 ghost use lib.ListN.{length};
 ghost use Rattle.model.specs.Limits.{ROWS};
-ghost use Rattle.model.specs.Requests.{barred};
-ghost use Rattle.memory.specs.Layout.{stateIn};
-ghost use Rattle.wakeset.specs.Marks.{sleepingParent, sleepingSupplier, IsWakeSet, HeardFrom, IsLowest, Reaches};
+ghost use Rattle.wakeset.specs.Marks.{IsWakeSet, HeardFrom, IsLowest, Reaches};
 ghost use Rattle.wakeset.specs.Sweep.{Chosen, Adds, Passes, Steps, Sweeps};
 use basics::both;
 use basics::either;
@@ -16,40 +12,19 @@ use links::FIRSTS;
 use memory::BYTES;
 use memory::WORDS;
 use memory::devices;
-use memory_rows::depth;
-use memory_rows::error;
-use memory_rows::flags;
-use memory_rows::ignore;
 use memory_rows::parent;
 use memory_rows::status;
 use memory_rows::supplier;
 use model::ACTIVE;
 use model::ROWS;
+use wake_rules::bars;
+use wake_rules::on_parent;
+use wake_rules::on_supplier;
 
 // The lowest member of a wake set, n where it has none, and whether a member other than the target is barred.
 pub struct Reach {
     pub low: u8,
     pub barred: bool,
-}
-
-// ---- what a device rests on
-
-// Device p rests on its parent, which counts its children, and the parent sleeps. A parent's number is lower.
-pub fn on_parent<'a>(bytes: &'a [u8; BYTES], p: u8) -> bool
-    ensures { λ r. ⌜ ((words : List ℕ) → r ≡ sleepingParent (stateIn (now (bytes .entry)) words) p) ⌝ }
-{
-    let q = parent(bytes, p);
-    let counted = both(q < p, ignore(bytes, q) == 0);
-    both(counted, status(bytes, q) < ACTIVE)
-}
-
-// Link i, of device p, is a runtime link, and its supplier sleeps. A supplier's number is lower.
-pub fn on_supplier<'a>(bytes: &'a [u8; BYTES], p: u8, i: usize) -> bool
-    ensures { λ r. ⌜ ((words : List ℕ) → r ≡ sleepingSupplier (stateIn (now (bytes .entry)) words) p i) ⌝ }
-{
-    let q = supplier(bytes, i);
-    let runtime = both(q < p, flags(bytes, i) % 2 == 1);
-    both(runtime, status(bytes, q) < ACTIVE)
 }
 
 // ---- the sweep
@@ -136,13 +111,6 @@ pub fn wake_set<'a>(bytes: &'a [u8; BYTES], first: &'a [u16; FIRSTS], t: u8) -> 
 }
 
 // ---- what requests ask of a wake set
-
-// Device q has an error or a disable depth above 0.
-pub fn bars<'a>(bytes: &'a [u8; BYTES], words: &'a [u32; WORDS], q: u8) -> bool
-    ensures { λ r. ⌜ r ≡ barred (stateIn (now (bytes .entry)) (now (words .entry))) q ⌝ }
-{
-    either(0 < error(words, q), 0 < depth(bytes, q))
-}
 
 // A marked device below t is barred. No device below low is marked.
 fn any_barred<'a>(

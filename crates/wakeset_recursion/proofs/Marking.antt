@@ -18,8 +18,10 @@ use Rattle.model.proofs.Basics.{never, none-rows}
 use Rattle.model.proofs.WakeSet.{none-on}
 use Rattle.memory.specs.Layout.{stateIn}
 use Rattle.links.specs.Firsts.{Listed}
-use Rattle.wakeset.specs.Marks.{onParent, onSupplier, sleepingParent, sleepingSupplier, IsWakeSet}
-use Rattle.wakeset.proofs.Resting.{lower-parent, lower-supplier, parent-tests, supplier-tests, parent-needs, end-fits, link-needs, needs-tests}
+use Rattle.wake_rules.specs.Marks.{onParent, onSupplier, sleepingParent, sleepingSupplier}
+use Rattle.wake_rules.proofs.Resting.{lower-parent, lower-supplier, parent-tests, supplier-tests, parent-needs}
+use Rattle.wakeset.specs.Marks.{IsWakeSet}
+use Rattle.wakeset.proofs.Resting.{end-fits, link-needs, needs-tests}
 use Rattle.wakeset.proofs.Members.{marks-are}
 use Rattle.wakeset_recursion.specs.Recursion.{fallsFrom, FromLinks, Joined, Markable, Marks}
 

@@ -10,7 +10,8 @@ use Rattle.model.specs.State.{State}
 use Rattle.model.specs.WakeSet.{Sleeping, Needs, Falls, On}
 use Rattle.memory.specs.Layout.{stateIn}
 use Rattle.links.specs.Firsts.{Listed}
-use Rattle.wakeset.specs.Marks.{onSupplier, Sleeper}
+use Rattle.wake_rules.specs.Marks.{onSupplier}
+use Rattle.wakeset.specs.Marks.{Sleeper}
 
 -- ---- sets of devices
 -- the members of p's wake set

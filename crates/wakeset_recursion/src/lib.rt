@@ -17,8 +17,8 @@ use memory_rows::supplier;
 use model::ACTIVE;
 use model::LINKS;
 use model::ROWS;
-use wakeset::on_parent;
-use wakeset::on_supplier;
+use wake_rules::on_parent;
+use wake_rules::on_supplier;
 
 // Marks the sleeping device p, and in turn the sleeping devices that it rests on. A device is marked after what it rests on, so a marked
 // device has all of its set marked.

@@ -12,7 +12,7 @@ use borrow.Fn.Kinds.{In}
 use borrow.Fn.PlainCycle.{Measures, is, falls, and}
 use Rattle.model.specs.Limits.{LINKS, ROWS}
 use Rattle.memory.specs.Layout.{stateIn}
-use Rattle.wakeset.specs.Marks.{sleepingParent, sleepingSupplier}
+use Rattle.wake_rules.specs.Marks.{sleepingParent, sleepingSupplier}
 use Rattle.wakeset_recursion.specs.Recursion.{Marks}
 use Rattle.wakeset_recursion.proofs.Marking.{FromParent, AtLink, closed-has, marks-same, marks-whole, marks-links}
 use Rattle.wakeset_recursion.proofs.Marking.{parent-lower, parent-asleep, parent-taken, parent-left, links-past, links-none, supplier-lower, supplier-asleep, link-taken, link-left}
@@ -20,8 +20,8 @@ use Rattle.basics.proofs.row.Reads as row-reads
 use Rattle.basics.proofs.wide.Reads as wide-reads
 use Rattle.memory_rows.proofs.parent.Reads as parent-reads
 use Rattle.memory_rows.proofs.supplier.Reads as supplier-reads
-use Rattle.wakeset.proofs.on_parent.Reads as on-parent-reads
-use Rattle.wakeset.proofs.on_supplier.Reads as on-supplier-reads
+use Rattle.wake_rules.proofs.on_parent.Reads as on-parent-reads
+use Rattle.wake_rules.proofs.on_supplier.Reads as on-supplier-reads
 use Rattle.wakeset_recursion.proofs.mark.Reads as mark
 use Rattle.wakeset_recursion.proofs.mark.Kinds as mark-kinds
 use Rattle.wakeset_recursion.proofs.+mark+mark_suppliers.Lts-mark as mark-lts

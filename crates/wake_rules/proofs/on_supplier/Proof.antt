@@ -1,8 +1,8 @@
 -- The three tests, joined, are those of the definition. Assumes nothing.
-use Rattle.wakeset.specs.Marks.{onSupplier, sleepingSupplier}
+use Rattle.wake_rules.specs.Marks.{onSupplier, sleepingSupplier}
 use borrow.Author.Needs.{needs}
-use Rattle.wakeset.proofs.on_supplier.Statement.{statement}
-use Rattle.wakeset.proofs.on_supplier.Tie as tie
+use Rattle.wake_rules.proofs.on_supplier.Statement.{statement}
+use Rattle.wake_rules.proofs.on_supplier.Tie as tie
 
 returns : tie.Need-returns
 unfolding onSupplier sleepingSupplier

@@ -1,8 +1,8 @@
 -- The two tests are those of the definition. Assumes nothing.
 use Rattle.model.specs.Requests.{barred}
 use borrow.Author.Needs.{needs}
-use Rattle.wakeset.proofs.bars.Statement.{statement}
-use Rattle.wakeset.proofs.bars.Tie as tie
+use Rattle.wake_rules.proofs.bars.Statement.{statement}
+use Rattle.wake_rules.proofs.bars.Tie as tie
 
 returns : tie.Need-returns
 unfolding barred

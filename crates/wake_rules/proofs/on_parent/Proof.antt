@@ -2,10 +2,10 @@
 use mathlib.Core.Path.{_≡_}
 use Rattle.model.specs.State.{statusAt}
 use Rattle.memory.specs.Layout.{stateIn}
-use Rattle.wakeset.specs.Marks.{onParent, sleepingParent}
+use Rattle.wake_rules.specs.Marks.{onParent, sleepingParent}
 use borrow.Author.Needs.{needs}
-use Rattle.wakeset.proofs.on_parent.Statement.{statement}
-use Rattle.wakeset.proofs.on_parent.Tie as tie
+use Rattle.wake_rules.proofs.on_parent.Statement.{statement}
+use Rattle.wake_rules.proofs.on_parent.Tie as tie
 
 returns : tie.Need-returns
 unfolding onParent sleepingParent
