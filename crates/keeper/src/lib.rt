@@ -38,9 +38,9 @@ fn enter_devices(bytes: &mut [u8; BYTES], t: &[u8])
     let n = byte_at(t, 5);
     let mut p: u8 = 0;
     while p < n {
-        memory_rows::set_parent(bytes, p, device_byte(t, 0, p));
-        memory_rows::set_ignore(bytes, p, device_byte(t, 1, p));
-        memory_rows::set_depth(bytes, p, 1);
+        memory_stores::set_parent(bytes, p, device_byte(t, 0, p));
+        memory_stores::set_ignore(bytes, p, device_byte(t, 1, p));
+        memory_stores::set_depth(bytes, p, 1);
         p += 1;
     }
 }
@@ -52,9 +52,9 @@ fn enter_links(bytes: &mut [u8; BYTES], t: &[u8])
     let m = byte_at(t, 6) as u16;
     let mut i: u16 = 0;
     while i < m {
-        memory_rows::set_consumer(bytes, i as usize, link_byte(t, 0, i));
-        memory_rows::set_supplier(bytes, i as usize, link_byte(t, 1, i));
-        memory_rows::set_flags(bytes, i as usize, link_byte(t, 2, i));
+        memory_links::set_consumer(bytes, i as usize, link_byte(t, 0, i));
+        memory_links::set_supplier(bytes, i as usize, link_byte(t, 1, i));
+        memory_links::set_flags(bytes, i as usize, link_byte(t, 2, i));
         i += 1;
     }
 }

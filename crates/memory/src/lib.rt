@@ -1,6 +1,6 @@
 // The memory of the bench: two arrays of cells. What stands where is known here and in specs/Layout.antt alone; every other crate reads
-// and changes the state through these functions, and through those of `memory_rows`, which know the numbers of the pages. Outside the pages
-// and the rows a reader answers 0 and a setter changes nothing.
+// and changes the state through these functions, and through those of `memory_rows`, `memory_links` and `memory_stores`, which know the
+// numbers of the pages. Outside the pages and the rows a reader answers 0 and a setter changes nothing.
 ghost use mathlib.Core.Path.{_≡_};
 ghost use mathlib.Core.List.{List};
 ghost use Prim.Native.Nat.{ℕ, _≤_};

@@ -38,10 +38,10 @@ fn link_ascends<'a>(bytes: &'a [u8; BYTES], i: usize) -> bool
     ensures { λ r. ⌜ Says (λ s. ascendsIn (s .wiring) i) (now (bytes .entry)) r ⌝ }
 {
     comes_before(
-        memory_rows::consumer(bytes, i),
-        memory_rows::supplier(bytes, i),
-        memory_rows::consumer(bytes, i + 1),
-        memory_rows::supplier(bytes, i + 1),
+        memory_links::consumer(bytes, i),
+        memory_links::supplier(bytes, i),
+        memory_links::consumer(bytes, i + 1),
+        memory_links::supplier(bytes, i + 1),
     )
 }
 
@@ -85,10 +85,10 @@ fn recount_linked<'a>(bytes: &'a [u8; BYTES], m: usize) -> [u32; ROWS]
     let mut k: usize = 0;
     while k < m {
         let bit = live_bit(
-            memory_rows::status(bytes, memory_rows::consumer(bytes, k)),
-            memory_rows::flags(bytes, k),
+            memory_rows::status(bytes, memory_links::consumer(bytes, k)),
+            memory_links::flags(bytes, k),
         );
-        let q = row(memory_rows::supplier(bytes, k));
+        let q = row(memory_links::supplier(bytes, k));
         counts[q] = counts[q] + bit;
         k += 1;
     }

@@ -58,8 +58,8 @@ pub fn links_fit<'a>(bytes: &'a [u8; BYTES], n: u8, m: usize) -> bool
         good = both(
             ends_good(
                 n,
-                memory_rows::consumer(bytes, i),
-                memory_rows::supplier(bytes, i),
+                memory_links::consumer(bytes, i),
+                memory_links::supplier(bytes, i),
             ),
             good,
         );
@@ -129,11 +129,11 @@ pub fn parents_supply<'a>(bytes: &'a [u8; BYTES], n: u8) -> bool
 fn link_supplies<'a>(bytes: &'a [u8; BYTES], i: usize) -> bool
     ensures { λ r. ⌜ Says (λ s. linkSupplies (s .wiring) (s .devices .status) i) (now (bytes .entry)) r ⌝ }
 {
-    let c = memory_rows::consumer(bytes, i);
-    let s = memory_rows::supplier(bytes, i);
+    let c = memory_links::consumer(bytes, i);
+    let s = memory_links::supplier(bytes, i);
     link_rests(
         memory_rows::status(bytes, c),
-        memory_rows::flags(bytes, i),
+        memory_links::flags(bytes, i),
         memory_rows::status(bytes, s),
     )
 }

@@ -10,13 +10,13 @@ use basics::both;
 use basics::either;
 use memory::BYTES;
 use memory::WORDS;
+use memory_links::flags;
+use memory_links::supplier;
 use memory_rows::depth;
 use memory_rows::error;
-use memory_rows::flags;
 use memory_rows::ignore;
 use memory_rows::parent;
 use memory_rows::status;
-use memory_rows::supplier;
 use model::ACTIVE;
 
 // ---- what a device rests on

@@ -19,7 +19,7 @@ use Rattle.wakeset_recursion.proofs.Marking.{parent-lower, parent-aslee
 use Rattle.basics.proofs.row.Reads as row-reads
 use Rattle.basics.proofs.wide.Reads as wide-reads
 use Rattle.memory_rows.proofs.parent.Reads as parent-reads
-use Rattle.memory_rows.proofs.supplier.Reads as supplier-reads
+use Rattle.memory_links.proofs.supplier.Reads as supplier-reads
 use Rattle.wake_rules.proofs.on_parent.Reads as on-parent-reads
 use Rattle.wake_rules.proofs.on_supplier.Reads as on-supplier-reads
 use Rattle.wakeset_recursion.proofs.mark.Reads as mark
