@@ -59,7 +59,7 @@ enum keeper_kind {
     KEEPER_KIND_GET = 3,              /* one user hold more */
     KEEPER_KIND_GET_AND_WAKE = 4,     /* the same, then as wake; the hold stays even if the wake fails */
     KEEPER_KIND_PUT = 5,              /* one user hold less */
-    KEEPER_KIND_PUT_AND_IDLE = 6,     /* the same, then as idle, whatever the use count is */
+    KEEPER_KIND_PUT_AND_IDLE = 6,     /* the same, then as idle if the use count has come to 0 */
     KEEPER_KIND_IDLE = 7,             /* ask the part whether it may sleep, and suspend it if so */
     KEEPER_KIND_SUSPEND = 8,          /* suspend the part */
     KEEPER_KIND_WAKE = 9,             /* resume the part, and first what it needs */
