@@ -4,7 +4,7 @@
 # make scripts   the test programs on their scripts, proved, built and run
 # make test      the gate: every check, ending with the toolchain's verdict
 # make sample    the definitions against the second implementation; SEED and COUNT choose the cases
-# make compare   the proved code against the second implementation; SEED, TABLES, WRITES, BENCHES, RECORDS, QUESTIONS, SAVES and FEEDS choose the cases
+# make compare   the proved code against the second implementation; SEED, TABLES, WRITES, BENCHES, RECORDS, QUESTIONS, SAVES, CALLS and FEEDS choose the cases
 # make bench     the time of both over one log
 SHELL := /bin/bash
 .SHELLFLAGS := -o pipefail -c
@@ -16,6 +16,7 @@ BENCHES ?= 2000
 RECORDS ?= 30000
 QUESTIONS ?= 600
 SAVES ?= 1000
+CALLS ?= 1500
 FEEDS ?= 60000
 UNPROVED := $(CURDIR)/target/unproved
 # where the toolchain copies what it loads: in memory, where that can be
@@ -94,7 +95,7 @@ sample:
 
 # the proved code, linked with the second implementation
 harness:
-	rt check keeper keeper_questions wakeset counts saved
+	rt check keeper keeper_questions wakeset counts saved c_host
 	rt staticlib export_cells
 	rt staticlib export_sizes
 	rt staticlib export_wakes
@@ -103,6 +104,7 @@ harness:
 	rt staticlib export_feed
 	rt staticlib export_bench
 	rt staticlib export_saved
+	rt staticlib c_host
 	cd tests/compare && cargo build --release --offline --quiet
 
 compare:
@@ -110,7 +112,7 @@ compare:
 	$(MAKE) states
 	$(MAKE) feeds
 
-# tables, lists for the writer, benches, single records, questions and methods, saved states
+# tables, lists for the writer, benches, single records, questions and methods, saved states, the calls of a C host
 states:
 	tests/compare/target/release/compare tables $(SEED) $(TABLES)
 	tests/compare/target/release/compare writer $(SEED) $(WRITES)
@@ -119,6 +121,7 @@ states:
 	tests/compare/target/release/compare records $(SEED) $(RECORDS)
 	tests/compare/target/release/compare questions $(SEED) $(QUESTIONS)
 	tests/compare/target/release/compare saved $(SEED) $(SAVES)
+	tests/compare/target/release/compare c_host $(SEED) $(CALLS)
 
 # logs in pieces
 feeds:

@@ -1,6 +1,6 @@
 //! Links the keeper: the archives of `export_cells`, `export_sizes`, `export_wakes`, `export_states`, `export_tables`,
-//! `export_feed`, `export_bench` and `export_saved` in `target/staticlib` of the repository, or in
-//! the folder that KEEPER_ARCHIVES names.
+//! `export_feed`, `export_bench`, `export_saved` and `c_host` in `target/staticlib` of the repository,
+//! or in the folder that KEEPER_ARCHIVES names.
 
 use std::env;
 use std::fs;
@@ -22,6 +22,7 @@ fn main() {
         "export_feed",
         "export_bench",
         "export_saved",
+        "c_host",
     ] {
         link(name, &folder, &out);
     }

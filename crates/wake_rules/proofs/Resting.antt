@@ -10,7 +10,7 @@ use Rattle.model.specs.Table.{Wiring}
 use Rattle.model.specs.State.{State}
 use Rattle.model.specs.WakeSet.{Sleeping, Needs, child}
 use Rattle.model.proofs.Logic.{tests, and-iff, lt-iff}
-use Rattle.wake_rules.specs.Marks.{onParent, onSupplier, sleepingParent, sleepingSupplier}
+use Rattle.wake_rules.specs.Rests.{onParent, onSupplier, sleepingParent, sleepingSupplier}
 
 -- the parent, or the supplier by link i, is lower than p
 pub lower-parent : (w : Wiring) (p : ℕ) → onParent w p ≡ true → getD (w .parent) p 0 < p

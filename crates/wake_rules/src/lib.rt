@@ -5,7 +5,7 @@ ghost use mathlib.Core.List.{List};
 ghost use Prim.Native.Nat.{ℕ};
 ghost use Rattle.model.specs.Requests.{barred};
 ghost use Rattle.memory.specs.Layout.{stateIn};
-ghost use Rattle.wake_rules.specs.Marks.{sleepingParent, sleepingSupplier};
+ghost use Rattle.wake_rules.specs.Rests.{sleepingParent, sleepingSupplier};
 use basics::both;
 use basics::either;
 use memory::BYTES;

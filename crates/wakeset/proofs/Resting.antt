@@ -13,7 +13,7 @@ use Rattle.model.proofs.Basics.{none-rows}
 use Rattle.model.proofs.Logic.{tests}
 use Rattle.links.specs.Firsts.{firstLink, Listed}
 use Rattle.links.proofs.Order.{link-of, of-link, first-at, next-at, next-fits}
-use Rattle.wake_rules.specs.Marks.{onParent, onSupplier}
+use Rattle.wake_rules.specs.Rests.{onParent, onSupplier}
 use Rattle.wake_rules.proofs.Resting.{lower-parent, lower-supplier, parent-tests, supplier-tests, parent-needs}
 use Rattle.wakeset.specs.Sweep.{Follows}
 

@@ -18,7 +18,7 @@ use Rattle.model.proofs.Basics.{never, none-rows}
 use Rattle.model.proofs.WakeSet.{none-on}
 use Rattle.memory.specs.Layout.{stateIn}
 use Rattle.links.specs.Firsts.{Listed}
-use Rattle.wake_rules.specs.Marks.{onParent, onSupplier, sleepingParent, sleepingSupplier}
+use Rattle.wake_rules.specs.Rests.{onParent, onSupplier, sleepingParent, sleepingSupplier}
 use Rattle.wake_rules.proofs.Resting.{lower-parent, lower-supplier, parent-tests, supplier-tests, parent-needs}
 use Rattle.wakeset.specs.Marks.{IsWakeSet}
 use Rattle.wakeset.proofs.Resting.{end-fits, link-needs, needs-tests}

@@ -10,7 +10,7 @@ use Rattle.model.specs.State.{State}
 use Rattle.model.specs.WakeSet.{Sleeping, Needs, Falls, On}
 use Rattle.memory.specs.Layout.{stateIn}
 use Rattle.links.specs.Firsts.{Listed}
-use Rattle.wake_rules.specs.Marks.{onSupplier}
+use Rattle.wake_rules.specs.Rests.{onSupplier}
 use Rattle.wakeset.specs.Marks.{Sleeper}
 
 -- ---- sets of devices

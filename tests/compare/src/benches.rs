@@ -34,13 +34,19 @@ pub fn compare(seed: u64, count: u64) -> Result<String, String> {
     ))
 }
 
-/// The bench of a random table.
-pub fn loaded(random: &mut Random) -> Bench {
+/// A random table that is good.
+pub fn good_table(random: &mut Random) -> Vec<u8> {
     loop {
-        if let Ok(bench) = second::load(&tables::of_any_size(random)) {
-            return bench;
+        let table = tables::of_any_size(random);
+        if second::load(&table).is_ok() {
+            return table;
         }
     }
+}
+
+/// The bench of a random table.
+pub fn loaded(random: &mut Random) -> Bench {
+    second::load(&good_table(random)).expect("the table is good")
 }
 
 /// A bench that a random log has led to.

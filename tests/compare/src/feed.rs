@@ -60,14 +60,14 @@ fn uncut(mut bench: Bench, log: &[u8]) -> (Bench, Vec<u8>) {
 }
 
 /// Random bytes to take pieces and reply buffers from.
-struct Noise(Vec<u8>);
+pub struct Noise(Vec<u8>);
 
 impl Noise {
-    fn new(random: &mut Random) -> Noise {
+    pub fn new(random: &mut Random) -> Noise {
         Noise((0..65_536).map(|_| random.byte()).collect())
     }
 
-    fn bytes(&self, random: &mut Random, length: usize) -> &[u8] {
+    pub fn bytes(&self, random: &mut Random, length: usize) -> &[u8] {
         let from = random.below((self.0.len() - length) as u64) as usize;
         &self.0[from..from + length]
     }

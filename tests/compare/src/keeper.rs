@@ -161,8 +161,7 @@ impl Memory {
         let [kind, device, low, high] = record;
         let value = u16::from_le_bytes([low, high]);
         // SAFETY: see above.
-        let reply =
-            unsafe { tests_request(&mut self.bytes, &mut self.words, kind, device, value) };
+        let reply = unsafe { tests_request(&mut self.bytes, &mut self.words, kind, device, value) };
         reply.to_le_bytes()
     }
 

@@ -9,18 +9,26 @@
 //! every method on so many random benches and on damaged ones; `compare
 //! unordered SEED COUNT` asks for wake sets of damaged memories; `compare saved
 //! SEED COUNT` saves so many random benches and damaged ones with both, restores
-//! whole, changed and stray forms, and breaks logs off. It ends with status 1 at
-//! the first difference, and where 200 or more benches or lists leave out an
-//! answer of document 01 or of requests One and Four.
-//! `compare bench` times both.
+//! whole, changed and stray forms, and breaks logs off; `compare c_host SEED
+//! COUNT` makes the calls of a C host in so many rounds of tables, logs,
+//! questions and stray states. It ends with status 1 at the first difference,
+//! and where 200 or more benches, lists or rounds leave out an answer of
+//! document 01 or of requests One, Four and Five.
+//! `compare bench` times both, and the calls of a C host.
 
 mod answers;
 mod benches;
 mod breaks;
+mod c_calls;
+mod c_host;
+mod c_speed;
+mod c_strays;
+mod c_tally;
 mod deepest;
 mod feed;
 mod keeper;
 mod layout;
+mod lent;
 mod logs;
 mod questions;
 mod records;
@@ -42,7 +50,7 @@ fn main() -> ExitCode {
     }
     let Some(outcome) = outcome(&words) else {
         eprintln!(
-            "usage: compare tables|writer|benches|unordered|records|questions|saved|feed SEED COUNT, or compare bench"
+            "usage: compare tables|writer|benches|unordered|records|questions|saved|c_host|feed SEED COUNT, or compare bench"
         );
         return ExitCode::from(2);
     };
@@ -78,6 +86,7 @@ fn outcome(words: &[&str]) -> Option<Result<String, String>> {
         "questions" => Some(questions::compare(seed, count)),
         "feed" => Some(feed::compare(seed, count)),
         "saved" => Some(saved::compare(seed, count)),
+        "c_host" => Some(c_host::compare(seed, count)),
         _ => None,
     }
 }

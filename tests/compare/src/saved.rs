@@ -39,6 +39,10 @@ pub fn same_bytes(what: &str, bytes: &[u8], right: &[u8]) -> Result<(), String> 
     if bytes.len() != right.len() {
         return Err(format!("{} bytes {what}, not {}", bytes.len(), right.len()));
     }
+    // At once, which is quicker than one by one.
+    if bytes == right {
+        return Ok(());
+    }
     match (0..right.len()).find(|&at| bytes[at] != right[at]) {
         Some(at) => Err(format!(
             "byte {at} {what}: {}, not {}",

@@ -1,6 +1,8 @@
 //! How fast the keeper is beside the second implementation: one log, given to both in turn; two
-//! logs that wake the largest wake sets over and over; and a bench saved and restored.
+//! logs that wake the largest wake sets over and over; and a bench saved and restored. How fast the
+//! calls of a C host are beside the keeper's own feed.
 
+use crate::c_speed;
 use crate::deepest;
 use crate::keeper::Memory;
 use second::generate::hosts::write;
@@ -28,9 +30,10 @@ pub fn compare() -> Result<String, String> {
     let (ours, second) = both(&bench, &log, RUNS)?;
     let (chain, fan) = (worst(&deepest::parents())?, worst(&deepest::fan())?);
     let kept = kept(&bench)?;
+    let calls = c_speed::compare(&bench, &log)?;
     Ok(format!(
         "bench: {RECORDS} records, {} devices, {} links, pieces of {MAX_PIECE} bytes, {RUNS} runs each\n\
-         keeper: {ours}\nsecond: {second}\nthe deepest chain, {chain}\nthe widest fan, {fan}\n{kept}\n\
+         keeper: {ours}\nsecond: {second}\nthe deepest chain, {chain}\nthe widest fan, {fan}\n{kept}\n{calls}\n\
          ratio of medians {:.2}\nratio {:.2}",
         bench.n,
         bench.m,
@@ -43,15 +46,19 @@ pub fn compare() -> Result<String, String> {
 fn both(bench: &Bench, log: &[u8], runs: usize) -> Result<(Times, Times), String> {
     let memory = Memory::from(bench);
     let (mut right, mut replies) = (Vec::<u8>::new(), Vec::<u8>::new());
-    give(bench, Bench::feed, log, |piece| right.extend(piece))?;
-    give(&memory, Memory::feed, log, |piece| replies.extend(piece))?;
+    give(bench, Bench::feed, log, MAX_PIECE, |piece| {
+        right.extend(piece)
+    })?;
+    give(&memory, Memory::feed, log, MAX_PIECE, |piece| {
+        replies.extend(piece)
+    })?;
     if replies != right || replies.len() != log.len() {
         return Err("bench: the replies differ".to_string());
     }
     let (mut ours, mut second) = (Vec::new(), Vec::new());
     for _ in 0..runs {
-        ours.push(time(&memory, Memory::feed, log)?);
-        second.push(time(bench, Bench::feed, log)?);
+        ours.push(time(&memory, Memory::feed, log, MAX_PIECE)?);
+        second.push(time(bench, Bench::feed, log, MAX_PIECE)?);
     }
     Ok((Times::of(ours), Times::of(second)))
 }
@@ -111,7 +118,7 @@ fn kept(bench: &Bench) -> Result<String, String> {
 }
 
 /// The best time of something, in nanoseconds.
-fn often<T>(mut what: impl FnMut() -> T) -> f64 {
+pub fn often<T>(mut what: impl FnMut() -> T) -> f64 {
     let mut best = f64::INFINITY;
     for _ in 0..RUNS {
         let before = Instant::now();
@@ -123,16 +130,18 @@ fn often<T>(mut what: impl FnMut() -> T) -> f64 {
     best
 }
 
-/// Gives a keeper the whole log, a piece at a time; the replies to each are handed on.
-fn give<B: Clone, E: fmt::Display>(
+/// Gives a keeper the whole log, a piece of so many bytes at a time; the replies to each are handed
+/// on.
+pub fn give<B: Clone, E: fmt::Display>(
     start: &B,
     feed: impl Fn(&mut B, &[u8], &mut [u8]) -> Result<usize, E>,
     log: &[u8],
+    size: usize,
     mut each: impl FnMut(&[u8]),
 ) -> Result<(), String> {
     let mut bench = start.clone();
     let mut buffer = [0; MAX_PIECE];
-    for piece in log.chunks(MAX_PIECE) {
+    for piece in log.chunks(size) {
         let replies = feed(&mut bench, piece, &mut buffer)
             .map_err(|number| format!("bench: a piece refused with {number}"))?;
         each(&buffer[..4 * replies]);
@@ -140,14 +149,15 @@ fn give<B: Clone, E: fmt::Display>(
     Ok(())
 }
 
-/// The time that a keeper takes for the log, in nanoseconds a record.
-fn time<B: Clone, E: fmt::Display>(
+/// The time that a keeper takes for the log in pieces of so many bytes, in nanoseconds a record.
+pub fn time<B: Clone, E: fmt::Display>(
     start: &B,
     feed: impl Fn(&mut B, &[u8], &mut [u8]) -> Result<usize, E>,
     log: &[u8],
+    size: usize,
 ) -> Result<f64, String> {
     let before = Instant::now();
-    give(start, feed, log, |replies| {
+    give(start, feed, log, size, |replies| {
         black_box(replies);
     })?;
     Ok(before.elapsed().as_nanos() as f64 * 4.0 / log.len() as f64)

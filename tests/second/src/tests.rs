@@ -1307,6 +1307,96 @@ fn breaks_do_not_matter() {
     }
 }
 
+/// The state bytes of a C host that has loaded the worked day's table, with two bytes behind them.
+fn day_state() -> Vec<u8> {
+    let mut state = vec![0xAA; FORM + 2];
+    assert_eq!(host::load(&TABLE, &mut state), 0);
+    assert_eq!(state[..FORM], save(&day_bench()).unwrap());
+    assert_eq!(state[FORM..], [0xAA; 2]);
+    state
+}
+
+#[test]
+fn the_day_of_a_c_host() {
+    let (mut state, mut bench) = (day_state(), day_bench());
+    let mut replies = [0xAA; 50];
+    assert_eq!(host::feed(&mut state, &day_log()[..6], &mut replies), 1);
+    assert_eq!(
+        (&replies[..4], &replies[4..]),
+        (&[0; 4][..], &[0xAA; 46][..])
+    );
+    assert_eq!(host::feed(&mut state, &day_log()[6..], &mut replies), 11);
+    assert_eq!(replies[..44], day_replies()[4..]);
+    assert_eq!(replies[44..], [0xAA; 6]);
+    bench.feed(&day_log(), &mut replies).unwrap();
+    assert_eq!(state[..FORM], save(&bench).unwrap());
+    assert_eq!(state[FORM..], [0xAA; 2]);
+    // Part 1, the supplier of part 2, has one hold by its link; part 0 is the parent of part 2.
+    for (question, answers) in [
+        (0, [ACTIVE.into(); 3]),
+        (1, [0, 1, 0]),
+        (2, [1, 0, 0]),
+        (3, [0, 0, 0]),
+        (5, [0, 0, 1]),
+    ] {
+        for (part, answer) in (0..).zip(answers) {
+            assert_eq!(host::ask(&state, question, part, u32::MAX), answer);
+        }
+    }
+}
+
+#[test]
+fn wake_sets_of_a_c_host() {
+    let state = day_state();
+    for (part, members) in [(0, [1, 0, 0]), (1, [0, 1, 0]), (2, [1, 1, 1])] {
+        for (second, member) in (0..).zip(members) {
+            assert_eq!(host::ask(&state, 4, part, second), member);
+        }
+        for second in [3, 63, 64, 255, 256, 257, 65_537, 1 << 31, u32::MAX] {
+            assert_eq!(host::ask(&state, 4, part, second), -24);
+            assert_eq!(host::ask(&state, 0, second, part), -24);
+        }
+    }
+    for question in [6, 7, 255, 256, 260, 65_536, 1 << 31, u32::MAX] {
+        assert_eq!(host::ask(&state, question, 0, 0), -24);
+    }
+}
+
+#[test]
+fn a_c_host_is_refused_in_order() {
+    let day = day_state();
+    // A faulty table is refused with its own number, room or not.
+    for (table, number) in [(&TABLE[..15], 5), (&TABLE[..6], 1), (&[], 1), (&TABLE, 8)] {
+        for room in [0, 1, FORM - 1] {
+            let mut state = vec![0xAA; room];
+            assert_eq!(host::load(table, &mut state), -number);
+            assert_eq!(state, vec![0xAA; room]);
+        }
+    }
+    let mut version = day.clone();
+    version[3] = 2;
+    let mut unsound = day.clone();
+    unsound[1669] = 0;
+    for bad in [&day[..FORM - 1], &day[1..], &version, &unsound, &[]] {
+        for (piece, room) in [(0, 0), (4, 4), (4_097, 5_000), (4_097, 0)] {
+            let (mut state, mut replies) = (bad.to_vec(), vec![0xAA; room]);
+            assert_eq!(host::feed(&mut state, &vec![1; piece], &mut replies), -21);
+            assert_eq!((&state[..], replies), (bad, vec![0xAA; room]));
+        }
+        for (question, part) in [(0, 0), (6, 0), (0, 3), (4, u32::MAX)] {
+            assert_eq!(host::ask(bad, question, part, 0), -21);
+        }
+    }
+    for (piece, room, number) in [(4_097, 0, 22), (4_097, 5_000, 22), (8, 7, 23), (4, 0, 23)] {
+        let (mut state, mut replies) = (day.clone(), vec![0xAA; room]);
+        assert_eq!(
+            host::feed(&mut state, &vec![1; piece], &mut replies),
+            -number
+        );
+        assert_eq!((state, replies), (day.clone(), vec![0xAA; room]));
+    }
+}
+
 #[test]
 fn a_seed_gives_the_same_lines() {
     let lines = |seed| -> Vec<String> {

@@ -2,7 +2,7 @@
 use mathlib.Core.Path.{_≡_}
 use Rattle.model.specs.State.{statusAt}
 use Rattle.memory.specs.Layout.{stateIn}
-use Rattle.wake_rules.specs.Marks.{onParent, sleepingParent}
+use Rattle.wake_rules.specs.Rests.{onParent, sleepingParent}
 use borrow.Author.Needs.{needs}
 use Rattle.wake_rules.proofs.on_parent.Statement.{statement}
 use Rattle.wake_rules.proofs.on_parent.Tie as tie

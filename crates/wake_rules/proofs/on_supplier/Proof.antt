@@ -1,5 +1,5 @@
 -- The three tests, joined, are those of the definition. Assumes nothing.
-use Rattle.wake_rules.specs.Marks.{onSupplier, sleepingSupplier}
+use Rattle.wake_rules.specs.Rests.{onSupplier, sleepingSupplier}
 use borrow.Author.Needs.{needs}
 use Rattle.wake_rules.proofs.on_supplier.Statement.{statement}
 use Rattle.wake_rules.proofs.on_supplier.Tie as tie

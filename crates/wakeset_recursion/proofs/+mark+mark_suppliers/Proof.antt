@@ -12,7 +12,7 @@ use borrow.Fn.Kinds.{In}
 use borrow.Fn.PlainCycle.{Measures, is, falls, and}
 use Rattle.model.specs.Limits.{LINKS, ROWS}
 use Rattle.memory.specs.Layout.{stateIn}
-use Rattle.wake_rules.specs.Marks.{sleepingParent, sleepingSupplier}
+use Rattle.wake_rules.specs.Rests.{sleepingParent, sleepingSupplier}
 use Rattle.wakeset_recursion.specs.Recursion.{Marks}
 use Rattle.wakeset_recursion.proofs.Marking.{FromParent, AtLink, closed-has, marks-same, marks-whole, marks-links}
 use Rattle.wakeset_recursion.proofs.Marking.{parent-lower, parent-asleep, parent-taken, parent-left, links-past, links-none, supplier-lower, supplier-asleep, link-taken, link-left}
