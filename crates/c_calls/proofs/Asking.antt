@@ -128,8 +128,14 @@ unknown-fair =
 pub ask-past : (question : ℕ) (s : State) (p q : ℕ) → 6 ≤ question → ask question s p q ≡ told s false 0
 unfolding ask if_then_else_
 ask-past question s p q l =
-    rw (ne-eqb question 0 (omega arith), ne-eqb question 1 (omega arith), ne-eqb question 2 (omega arith), ne-eqb question 3 (omega arith),
-    ne-eqb question 4 (omega arith), ne-eqb question 5 (omega arith))
+    rw (
+      ne-eqb question 0 (omega arith),
+      ne-eqb question 1 (omega arith),
+      ne-eqb question 2 (omega arith),
+      ne-eqb question 3 (omega arith),
+      ne-eqb question 4 (omega arith),
+      ne-eqb question 5 (omega arith),
+    )
 
 pub ask-fair : (question : ℕ) → Fair (ask question)
 unfolding ask

@@ -76,8 +76,8 @@ bench-sound bytes e =
 pub begins-only : Begins
 begins-only bytes c s h = (
   λ e.
-  let f = take FORM bytes in
-  let z : restoreOf f .state ≡ s = sym (bench-in bytes) ∙ e in
-  restored-form f (cells-take FORM bytes c) (restored f (rw z h)) ∙ ap form z,
+      let f = take FORM bytes in
+      let z : restoreOf f .state ≡ s = sym (bench-in bytes) ∙ e in
+      restored-form f (cells-take FORM bytes c) (restored f (rw z h)) ∙ ap form z,
   λ e. begins bytes h e,
 )

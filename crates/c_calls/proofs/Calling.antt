@@ -126,10 +126,10 @@ module _ (state : List ℕ) (p : Piece) (s : State) (is : judgedOf s .state ≡ 
   taken-room e =
       elim (decLt (length state) FORM) [
         | yes l ↦
-          let b : judgedOf s .state ≡ emptyState = is ∙ bench-short state l in
-          let n = sym (ap (λ (x : Fed). x .number) gave ∙ alike s emptyState p b .number) ∙ e in
-          let y = ap (λ (x : Fed). x .number) (fed-unsound emptyState empty-unsound p) in
-          absurd (omega arith)
+            let b : judgedOf s .state ≡ emptyState = is ∙ bench-short state l in
+            let n = sym (ap (λ (x : Fed). x .number) gave ∙ alike s emptyState p b .number) ∙ e in
+            let y = ap (λ (x : Fed). x .number) (fed-unsound emptyState empty-unsound p) in
+            absurd (omega arith)
         | no g ↦ omega arith
       ]
 
