@@ -134,9 +134,6 @@ replayed:
 	host/target/release/write examples/wiring/list.txt target/wiring.bin
 	cmp target/wiring.bin examples/wiring/table.bin
 	host/target/release/list examples/wiring/table.bin | cmp - examples/wiring/sorted.txt
-	host/target/release/replay examples/autosuspend/table.bin examples/autosuspend/log.bin target/autosuspend.bin 5 | cmp - examples/autosuspend/expected.txt
-	cmp target/autosuspend.bin examples/autosuspend/replies.bin
-	examples/show examples/autosuspend/log.bin target/autosuspend.bin | cmp - examples/autosuspend/words.txt
 
 # the calls for a C host, from C: the header, the example host, and the header's numbers
 hosted:

@@ -18,17 +18,13 @@
 extern "C" {
 #endif
 
-#define KEEPER_STATE_BYTES 7061 /* the room that a state needs, of version 2 */
+#define KEEPER_STATE_BYTES 4753 /* the room that a state needs */
 #define KEEPER_TABLE_MOST 519   /* the longest table: 64 parts and 128 links, 7 + 2 * 64 + 3 * 128 */
 #define KEEPER_PIECE_MOST 4096  /* the longest piece of log */
 #define KEEPER_RECORD_BYTES 4   /* a record; a reply has as many */
 
 /* The room that the replies to a piece need at most: up to 3 bytes may be carried from the pieces before it. */
 #define KEEPER_REPLY_BYTES(piece_len) ((3u + (piece_len)) / 4u * 4u)
-
-/* A time from the answers for its low and its high 16 bits, and a delay in milliseconds from the answer for it; neither answer a refusal. */
-#define KEEPER_TIME(low, high) ((uint32_t)(low) + ((uint32_t)(high) << 16))
-#define KEEPER_DELAY(answer) ((int32_t)(answer) - ((answer) < 32768 ? 0 : 65536))
 
 /* What the calls refuse, as negative results, and the codes of replies of kind KEEPER_REPLY_REFUSED. */
 enum keeper_refusal {
@@ -43,12 +39,12 @@ enum keeper_refusal {
     KEEPER_REFUSED_STATE_ROOM = 8,    /* fewer than KEEPER_STATE_BYTES for the state */
     /* in replies */
     KEEPER_REFUSED_RECORD_KIND = 11,  /* none of enum keeper_kind */
-    KEEPER_REFUSED_RECORD_PART = 12,  /* no such part, or a tick for another part than 0 */
+    KEEPER_REFUSED_RECORD_PART = 12,  /* no such part */
     KEEPER_REFUSED_RECORD_VALUE = 13, /* a value that the kind does not have */
     KEEPER_REFUSED_NO_CALLBACK = 14,  /* a result while no callback is open */
     KEEPER_REFUSED_OTHER_PART = 15,   /* a result for another part than the one asked */
     /* keeper_feed and keeper_ask */
-    KEEPER_REFUSED_STATE = 21, /* the bytes do not begin with a saved state of version 2, the newest; one of version 1 is refused too */
+    KEEPER_REFUSED_STATE = 21, /* the bytes do not begin with a saved state of the newest version */
     /* keeper_feed */
     KEEPER_REFUSED_PIECE_LONG = 22, /* more than KEEPER_PIECE_MOST bytes */
     KEEPER_REFUSED_REPLY_ROOM = 23, /* fewer than 4 bytes for each reply */
@@ -70,16 +66,11 @@ enum keeper_kind {
     KEEPER_KIND_SET_ACTIVE = 10,      /* count a disabled or failed part as active; no callback is run */
     KEEPER_KIND_SET_SUSPENDED = 11,   /* count it as suspended; no callback is run */
     KEEPER_KIND_IGNORE_CHILDREN = 12, /* value 1: children no longer keep the part awake; 0: they do again */
-    KEEPER_KIND_RESULT = 13,          /* what the callback that was asked for returned: 0, or an error from -1 to -4095 */
-    KEEPER_KIND_TICK = 14,            /* part 0; value 0 to 32767: the clock goes on by so many milliseconds */
-    KEEPER_KIND_MARK_BUSY = 15,       /* the part's last busy becomes the clock */
-    KEEPER_KIND_SET_DELAY = 16,       /* any value: the part's delay in milliseconds; below 0 it is not suspended while it uses autosuspend */
-    KEEPER_KIND_USE_AUTOSUSPEND = 17, /* value 1: the part uses its delay; 0: it does not */
-    KEEPER_KIND_AUTOSUSPEND = 18      /* as suspend; but -11 as long as a part that uses autosuspend has to wait for its delay */
+    KEEPER_KIND_RESULT = 13           /* what the callback that was asked for returned: 0, or an error from -1 to -4095 */
 };
 
 /* Replies: kind, part, code (signed, 16 bits, low byte first). After a reply that asks for a callback the host runs that callback of that
- * part and feeds its result; until then every other well-formed record is finished with -115, but a tick, which is answered at any time. */
+ * part and feeds its result; until then every other well-formed record is finished with -115. */
 enum keeper_reply {
     KEEPER_REPLY_FINISHED = 0,    /* the request is finished; the code is its answer: 0, 1, or an error below 0 */
     KEEPER_REPLY_RUN_SUSPEND = 1, /* run the suspend callback of the part */
@@ -88,21 +79,14 @@ enum keeper_reply {
     KEEPER_REPLY_REFUSED = 4      /* the record is refused; the code is the number of the refusal, 11 to 15 */
 };
 
-/* Questions for keeper_ask, and what it answers. Times have 32 bits and an answer has 31, since those below 0 are refusals: each time is asked
- * for in two halves, which KEEPER_TIME joins. No record may be fed between the two. */
+/* Questions for keeper_ask, and what it answers. */
 enum keeper_question {
-    KEEPER_ASK_STATUS = 0,         /* one of enum keeper_status */
-    KEEPER_ASK_USE_COUNT = 1,      /* user holds, and runtime links to the part from powered parts */
-    KEEPER_ASK_CHILD_COUNT = 2,    /* powered children: those that are active or suspending */
-    KEEPER_ASK_USER_HOLDS = 3,     /* user holds alone */
-    KEEPER_ASK_IN_WAKE_SET = 4,    /* 1 if a wake of `part` has to resume `second`, which may be `part` itself; else 0 */
-    KEEPER_ASK_PARENTS_ABOVE = 5,  /* how many parents stand above the part */
-    KEEPER_ASK_DELAY = 6,          /* its delay as an unsigned number of 16 bits: -k is 65536 - k, which KEEPER_DELAY turns back */
-    KEEPER_ASK_AUTOSUSPEND = 7,    /* 1 if it uses autosuspend, else 0 */
-    KEEPER_ASK_LAST_BUSY_LOW = 8,  /* its last busy, the low 16 bits */
-    KEEPER_ASK_LAST_BUSY_HIGH = 9, /* its last busy, the high 16 bits */
-    KEEPER_ASK_CLOCK_LOW = 10,     /* the clock, the low 16 bits; `part` is not looked at */
-    KEEPER_ASK_CLOCK_HIGH = 11     /* the clock, the high 16 bits; `part` is not looked at */
+    KEEPER_ASK_STATUS = 0,       /* one of enum keeper_status */
+    KEEPER_ASK_USE_COUNT = 1,    /* user holds, and runtime links to the part from powered parts */
+    KEEPER_ASK_CHILD_COUNT = 2,  /* powered children: those that are active or suspending */
+    KEEPER_ASK_USER_HOLDS = 3,   /* user holds alone */
+    KEEPER_ASK_IN_WAKE_SET = 4,  /* 1 if a wake of `part` has to resume `second`, which may be `part` itself; else 0 */
+    KEEPER_ASK_PARENTS_ABOVE = 5 /* how many parents stand above the part */
 };
 
 enum keeper_status {
@@ -112,7 +96,7 @@ enum keeper_status {
     KEEPER_STATUS_SUSPENDING = 3
 };
 
-/* Loads a table: `state` becomes the bench in which every part is suspended and disabled once, and the clock is 0.
+/* Loads a table: `state` becomes the bench in which every part is suspended and disabled once.
  *
  * Returns 0, or the table's refusal negated: 1 to 7, the first fault in reading order; then 8 if state_len is below KEEPER_STATE_BYTES.
  * Writes the first KEEPER_STATE_BYTES of `state`, whatever they were. The bytes after them stay. */
@@ -126,12 +110,10 @@ int32_t keeper_load(const uint8_t *table, size_t table_len, uint8_t *state, size
  * Writes the first KEEPER_STATE_BYTES of `state`, and the replies at the front of `replies`. The bytes after them stay. */
 int32_t keeper_feed(uint8_t *state, size_t state_len, const uint8_t *piece, size_t piece_len, uint8_t *replies, size_t replies_len);
 
-/* Asks about a part, or about the clock. `second` counts in KEEPER_ASK_IN_WAKE_SET alone, and `part` in all questions but those about the
- * clock.
+/* Asks about a part. `second` counts in KEEPER_ASK_IN_WAKE_SET alone.
  *
  * Returns the answer, or a refusal negated. Tested in this order: 21; then 24 for a question that is none of enum keeper_question, for a
- * part that is not in the table, where it counts, and in KEEPER_ASK_IN_WAKE_SET for such a second part. No number is cut down to fewer bits.
- * Writes nothing. */
+ * part that is not in the table, and in KEEPER_ASK_IN_WAKE_SET for such a second part. No number is cut down to fewer bits. Writes nothing. */
 int32_t keeper_ask(const uint8_t *state, size_t state_len, uint32_t question, uint32_t part, uint32_t second);
 
 #ifdef __cplusplus

@@ -1,14 +1,12 @@
 /* host TABLE LOG: a host of the keeper. It makes the requests of a log, runs the callbacks that the keeper asks for and feeds their results.
- * The callbacks are pretended: they switch nothing, and return what the log has as their results; requests before a result are made while the
- * callback runs. After record 5 the battery is changed. */
+ * The callbacks are pretended: they switch nothing, and return what the log has as their results. After record 5 the battery is changed. */
 #include "keeper.h"
 #include <stdio.h>
 #include <stdlib.h>
 #include <string.h>
 
 static const char *const REQUEST[] = {"unknown", "enable", "disable", "get", "get and wake", "put", "put and idle", "idle", "suspend",
-                                      "wake", "set active", "set suspended", "ignore children", "result", "tick", "mark busy", "set delay",
-                                      "use autosuspend", "autosuspend"};
+                                      "wake", "set active", "set suspended", "ignore children", "result"};
 static const char *const CALLBACK[] = {"", "suspend", "resume", "idle"};
 static const char *const STATUS[] = {"suspended", "resuming", "active", "suspending"};
 static uint8_t state[KEEPER_STATE_BYTES], flash[KEEPER_STATE_BYTES], table[KEEPER_TABLE_MOST + 1];
@@ -31,6 +29,12 @@ static int next_record(FILE *log, uint8_t *record) {
     if (ferror(log) || (got != 0 && got != KEEPER_RECORD_BYTES)) fail("the log cannot be read, or ends within a record");
     return got != 0;
 }
+static int run_callback(FILE *log, unsigned kind, unsigned part) {
+    uint8_t result[KEEPER_RECORD_BYTES];
+    if (!next_record(log, result) || result[0] != KEEPER_KIND_RESULT || result[1] != part) fail("the log has no result for a callback");
+    printf("    %s part %u: %d\n", CALLBACK[kind], part, number(result + 2));
+    return number(result + 2);
+}
 static void show_parts(void) {
     for (unsigned part = 0; part < table[5]; part++) {
         int status = checked("status", keeper_ask(state, sizeof state, KEEPER_ASK_STATUS, part, 0));
@@ -46,41 +50,18 @@ static void change_battery(void) {
     printf("    battery in:\n");
     show_parts();
 }
-/* One record, and the reply to it. */
-static void feed(const uint8_t *record, uint8_t *reply) {
-    static int fed;
-    if (checked("piece", keeper_feed(state, sizeof state, record, KEEPER_RECORD_BYTES, reply, KEEPER_RECORD_BYTES)) != 1) fail("no reply");
-    if (++fed == 5) change_battery();
-}
-static void show_request(const uint8_t *record) {
-    printf("%s part %u", REQUEST[record[0] <= KEEPER_KIND_AUTOSUSPEND ? record[0] : 0], record[1]);
-    if (number(record + 2) != 0) printf(" value %d", number(record + 2));
-}
-static int run_callback(FILE *log, unsigned kind, unsigned part) {
-    uint8_t record[KEEPER_RECORD_BYTES], reply[KEEPER_RECORD_BYTES];
-    int more;
-    while ((more = next_record(log, record)) && record[0] != KEEPER_KIND_RESULT) { /* a tick is answered now, other requests come too early */
-        feed(record, reply);
-        checked("record", reply[0] == KEEPER_REPLY_REFUSED ? -number(reply + 2) : 0);
-        printf("    meanwhile ");
-        show_request(record);
-        printf(": %d\n", number(reply + 2));
-    }
-    if (!more || record[1] != part) fail("the log has no result for a callback");
-    printf("    %s part %u: %d\n", CALLBACK[kind], part, number(record + 2));
-    return number(record + 2);
-}
 int main(int count, char **names) {
-    uint8_t record[KEEPER_RECORD_BYTES], reply[KEEPER_RECORD_BYTES];
+    uint8_t record[KEEPER_RECORD_BYTES], reply[KEEPER_REPLY_BYTES(KEEPER_RECORD_BYTES)];
     FILE *file = count == 3 ? fopen(names[1], "rb") : NULL, *log = count == 3 ? fopen(names[2], "rb") : NULL;
     if (file == NULL || log == NULL) fail("a table and a log are needed: host TABLE LOG");
     size_t length = fread(table, 1, sizeof table, file); /* a longer file is refused by what is read of it */
     checked("table", keeper_load(table, length, state, sizeof state));
+    int fed = 0;
     while (next_record(log, record)) {
-        show_request(record);
-        printf("\n");
+        printf("%s part %u\n", REQUEST[record[0] <= KEEPER_KIND_RESULT ? record[0] : 0], record[1]);
         for (;;) {
-            feed(record, reply);
+            if (checked("piece", keeper_feed(state, sizeof state, record, sizeof record, reply, sizeof reply)) != 1) fail("no reply");
+            if (++fed == 5) change_battery();
             if (reply[0] == KEEPER_REPLY_FINISHED || reply[0] == KEEPER_REPLY_REFUSED) break;
             unsigned result = (unsigned)run_callback(log, reply[0], reply[1]);
             record[0] = KEEPER_KIND_RESULT, record[1] = reply[1], record[2] = (uint8_t)result, record[3] = (uint8_t)(result >> 8);

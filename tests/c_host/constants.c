@@ -1,6 +1,6 @@
-/* constants DAY DELAYS: the numbers of keeper.h against what the calls do, every refusal, and what each call writes; DAY is the folder
- * examples/day, and DELAYS examples/autosuspend. It is C99 and C++11. Buffers are cut from the heap for each call, with GUARD bytes before and
- * after that have to stay; with -DGUARD=0 they are exactly as long as the call is told, for a memory checker. */
+/* constants DAY: the numbers of keeper.h against what the calls do, every refusal, and what each call writes; DAY is the folder examples/day.
+ * It is C99 and C++11. Buffers are cut from the heap for each call, with GUARD bytes before and after that have to stay; with -DGUARD=0 they
+ * are exactly as long as the call is told, for a memory checker. */
 #include "keeper.h"
 #include <stdio.h>
 #include <stdlib.h>
@@ -10,7 +10,6 @@
 #define GUARD 64
 #endif
 #define COUNT(array) (sizeof(array) / sizeof((array)[0]))
-#define OLDER 4753 /* the length of a state of version 1 */
 
 static long checks, failures;
 
@@ -172,7 +171,7 @@ static void tables(void) {
     uint8_t longer[sizeof TWO_LINKS + 1];
     size_t len;
     load("a table, and the room of a state", 0, day, day_len, FORM);
-    holds("a loaded state", "it begins with its mark and version", memcmp(state, "TWS\2\0", 5) == 0);
+    holds("a loaded state", "it begins with its mark and version", memcmp(state, "TWS\1\0", 5) == 0);
     load("a table, and more room", 0, day, day_len, FORM + 1);
     load("a table, and much more room", 0, day, day_len, FORM + 4096);
     load("a table with two links", 0, TWO_LINKS, sizeof TWO_LINKS, FORM);
@@ -219,12 +218,11 @@ static void tables(void) {
 
 /* ---- bytes that are no state */
 
-static const uint32_t QUESTIONS[] = {KEEPER_ASK_STATUS,        KEEPER_ASK_USE_COUNT,      KEEPER_ASK_CHILD_COUNT, KEEPER_ASK_USER_HOLDS,
-                                     KEEPER_ASK_IN_WAKE_SET,   KEEPER_ASK_PARENTS_ABOVE,  KEEPER_ASK_DELAY,       KEEPER_ASK_AUTOSUSPEND,
-                                     KEEPER_ASK_LAST_BUSY_LOW, KEEPER_ASK_LAST_BUSY_HIGH, KEEPER_ASK_CLOCK_LOW,   KEEPER_ASK_CLOCK_HIGH};
+static const uint32_t QUESTIONS[] = {KEEPER_ASK_STATUS,     KEEPER_ASK_USE_COUNT,   KEEPER_ASK_CHILD_COUNT,
+                                     KEEPER_ASK_USER_HOLDS, KEEPER_ASK_IN_WAKE_SET, KEEPER_ASK_PARENTS_ABOVE};
 /* numbers past every table, with low bytes that would be parts or questions */
-static const uint32_t WIDE[] = {254,    255,     256,     257,     258,       260,        266,        511,        512,        0x8000,    0xFF00,
-                                0xFFFF, 0x10000, 0x10004, 0x1000B, 0x1000000, 0x7FFFFFFF, 0x80000000, 0x80000004, 0xFFFFFF00, 0xFFFFFFFF};
+static const uint32_t WIDE[] = {254,     255,     256,     257,       258,        260,        511,        512,        0x8000,    0xFF00,
+                                0xFFFF,  0x10000, 0x10004, 0x1000000, 0x7FFFFFFF, 0x80000000, 0x80000004, 0xFFFFFF00, 0xFFFFFFFF};
 static const uint8_t NOTHING[KEEPER_PIECE_MOST + 1] = {0};
 
 /* 21 comes before the other refusals of feed and ask. */
@@ -249,30 +247,8 @@ static void damaged(const char *what, size_t at, uint8_t byte) {
     no_state(what, copy, FORM + 1);
 }
 
-/* The state in the layout of version 1, which has neither delays, last busies and flags nor a clock. */
-static void older(uint8_t *to) {
-    memcpy(to, "TWS\1\0", 5);
-    memcpy(to + 5, state + 5, 5 * 256);           /* parents to child counts */
-    memcpy(to + 1285, state + 1541, 3 * 128 + 8); /* links, n to the carried bytes */
-    memcpy(to + 1677, state + 1933, 3 * 4 * 256); /* holds, errors, links from powered parts */
-    memcpy(to + OLDER - 4, state + 7053, 4);      /* m */
-}
-
-static void older_states(void) {
-    uint8_t old[KEEPER_STATE_BYTES + 1] = {0};
-    older(old);
-    no_state("a state of version 1", old, OLDER);
-    no_state("a state of version 1, and zeros", old, FORM);
-    no_state("a state of version 1, and a byte more", old, FORM + 1);
-    memcpy(old + OLDER, state + OLDER, FORM - OLDER);
-    no_state("a state of version 1, and the end of one of version 2", old, FORM);
-    memcpy(old, "TWS\2\0", 5);
-    no_state("version 2 before a state of version 1", old, OLDER);
-    no_state("version 2 before a state of version 1, and zeros", old, FORM);
-}
-
 static void states(void) {
-    static const size_t short_of[] = {0, 1, 4, 5, 4096, OLDER, KEEPER_STATE_BYTES - 1};
+    static const size_t short_of[] = {0, 1, 4, 5, 4096, KEEPER_STATE_BYTES - 1};
     uint8_t more[KEEPER_STATE_BYTES + 1000];
     size_t i;
     load("a table", 0, day, day_len, FORM);
@@ -289,27 +265,18 @@ static void states(void) {
     damaged("mark of a state", 0, 'S');
     damaged("mark of a table", 2, 'B');
     damaged("version 0 of a state", 3, 0);
-    damaged("version 1 of a state", 3, 1);
-    damaged("version 3 of a state", 3, 3);
     damaged("a later version of a state", 3, 200);
     damaged("version 257 of a state", 4, 1);
     damaged("parent of a part that is not there", 8, 1);
     damaged("a status of 4", 517, 4);
     damaged("a powered part on one that sleeps", 519, 2);
     damaged("a child count", 1029, 1);
-    damaged("a flag of 2", 1285, 2);
-    damaged("the flag of a part that is not there", 1288, 1);
-    damaged("no parts", 1925, 0);
-    damaged("65 parts", 1925, 65);
-    damaged("an open callback", 1926, 1);
-    damaged("four carried bytes", 1929, 4);
-    damaged("a carried byte that is not used", 1930, 1);
-    damaged("a delay of 65,536", 5007, 1);
-    damaged("the delay of a part that is not there", 5017, 1);
-    damaged("the last busy of a part that is not there", 6041, 1);
-    damaged("two links and one that is there", 7053, 2);
-    damaged("the last byte of m", 7056, 1);
-    older_states();
+    damaged("no parts", 1669, 0);
+    damaged("65 parts", 1669, 65);
+    damaged("an open callback", 1670, 1);
+    damaged("four carried bytes", 1673, 4);
+    damaged("a carried byte that is not used", 1674, 1);
+    damaged("the last byte", 4752, 1);
     memset(more, 0x5A, sizeof more);
     memcpy(more, state, FORM);
     feed("a state with bytes after it", 1, more, sizeof more, NOTHING, 5, 9);
@@ -353,11 +320,9 @@ static void pieces(void) {
 static void unknown(uint32_t parts) {
     size_t i, k;
     for (k = 0; k < COUNT(QUESTIONS); k++) {
-        /* the clock is 0 here, and is that of the bench, whatever the part */
-        long expected = QUESTIONS[k] == KEEPER_ASK_CLOCK_LOW || QUESTIONS[k] == KEEPER_ASK_CLOCK_HIGH ? 0 : -KEEPER_REFUSED_QUESTION;
-        ask("the first part that is not there", expected, QUESTIONS[k], parts, 0);
+        ask("the first part that is not there", -KEEPER_REFUSED_QUESTION, QUESTIONS[k], parts, 0);
         for (i = 0; i < COUNT(WIDE); i++) {
-            ask("a part that is not there", expected, QUESTIONS[k], WIDE[i], 0);
+            ask("a part that is not there", -KEEPER_REFUSED_QUESTION, QUESTIONS[k], WIDE[i], 0);
             if (QUESTIONS[k] != KEEPER_ASK_IN_WAKE_SET) ask("a second part is not looked at", 0, QUESTIONS[k], 0, WIDE[i]);
         }
     }
@@ -368,62 +333,35 @@ static void unknown(uint32_t parts) {
         ask("both not there", -KEEPER_REFUSED_QUESTION, KEEPER_ASK_IN_WAKE_SET, WIDE[i], WIDE[i]);
         ask("no such question", -KEEPER_REFUSED_QUESTION, WIDE[i], 0, 0);
     }
-    same("the number of questions", 12, (long)COUNT(QUESTIONS));
-    for (i = COUNT(QUESTIONS); i < 30; i++) ask("no such question", -KEEPER_REFUSED_QUESTION, (uint32_t)i, 0, 0);
+    for (i = COUNT(QUESTIONS); i < 20; i++) ask("no such question", -KEEPER_REFUSED_QUESTION, (uint32_t)i, 0, 0);
 }
 
 /* ---- records by their kinds */
 
-/* the least and the greatest value of each kind */
-static const int VALUES[][2] = {{0, 0}, {0, 0}, {0, 0}, {0, 0},     {0, 0},     {0, 0}, {0, 0},          {0, 0}, {0, 0}, {0, 0},
-                                {0, 0}, {0, 0}, {0, 1}, {-4095, 0}, {0, 32767}, {0, 0}, {-32768, 32767}, {0, 1}, {0, 0}};
-
-/* A record for a part that is there: its value is one that its kind has, or is refused with 13. */
-static void valued(unsigned kind, int value) {
-    const int *bounds = VALUES[kind];
-    uint8_t bytes[4];
-    if (value < -32768 || value > 32767) return;
-    load("a table", 0, day, day_len, FORM);
-    if (value < bounds[0] || value > bounds[1]) {
-        record("a value that the kind does not have", kind, 0, value, KEEPER_REPLY_REFUSED, 0, KEEPER_REFUSED_RECORD_VALUE);
-    } else if (kind == KEEPER_KIND_RESULT) {
-        record("a result, nothing open", kind, 0, value, KEEPER_REPLY_REFUSED, 0, KEEPER_REFUSED_NO_CALLBACK);
-    } else {
-        bytes[0] = (uint8_t)kind;
-        bytes[1] = 0;
-        bytes[2] = (uint8_t)((unsigned)value & 255);
-        bytes[3] = (uint8_t)((unsigned)value >> 8 & 255);
-        feed("a value of the kind", 1, state, FORM, bytes, 4, 4);
-        same("a value of the kind", KEEPER_REPLY_FINISHED, replies[0]);
-    }
-}
-
 static void kinds(void) {
     unsigned kind;
-    same("the number of kinds", 18, KEEPER_KIND_AUTOSUSPEND);
-    same("the number of kinds", 18, (long)COUNT(VALUES) - 1);
     for (kind = 0; kind < 256; kind++) {
         load("a table", 0, day, day_len, FORM);
-        if (kind < KEEPER_KIND_ENABLE || kind > KEEPER_KIND_AUTOSUSPEND) {
+        if (kind < KEEPER_KIND_ENABLE || kind > KEEPER_KIND_RESULT)
             record("no such kind", kind, 200, 2, KEEPER_REPLY_REFUSED, 200, KEEPER_REFUSED_RECORD_KIND);
-        } else {
-            const int *bounds = VALUES[kind];
+        else if (kind == KEEPER_KIND_RESULT)
+            record("a result, nothing open", kind, 0, 0, KEEPER_REPLY_REFUSED, 0, KEEPER_REFUSED_NO_CALLBACK);
+        else {
             record("a known kind, no such part", kind, 3, 2, KEEPER_REPLY_REFUSED, 3, KEEPER_REFUSED_RECORD_PART);
-            record("a known kind, no such part", kind, 255, bounds[0], KEEPER_REPLY_REFUSED, 255, KEEPER_REFUSED_RECORD_PART);
-            valued(kind, bounds[0]);
-            valued(kind, bounds[0] - 1);
-            valued(kind, bounds[1]);
-            valued(kind, bounds[1] + 1);
-            valued(kind, -32768);
-            valued(kind, 32767);
+            record("a known kind, no such value", kind, 0, 2, KEEPER_REPLY_REFUSED, 0, KEEPER_REFUSED_RECORD_VALUE);
+            record("a known kind, no such value", kind, 2, -1, KEEPER_REPLY_REFUSED, 2, KEEPER_REFUSED_RECORD_VALUE);
+            record("the value 1", kind, 1, 1, kind == KEEPER_KIND_IGNORE_CHILDREN ? KEEPER_REPLY_FINISHED : KEEPER_REPLY_REFUSED, 1,
+                   kind == KEEPER_KIND_IGNORE_CHILDREN ? 0 : KEEPER_REFUSED_RECORD_VALUE);
         }
     }
     load("a table", 0, day, day_len, FORM);
-    record("tick for part 1", KEEPER_KIND_TICK, 1, 0, KEEPER_REPLY_REFUSED, 1, KEEPER_REFUSED_RECORD_PART);
-    record("tick for part 2, no such value", KEEPER_KIND_TICK, 2, -1, KEEPER_REPLY_REFUSED, 2, KEEPER_REFUSED_RECORD_PART);
+    record("result 1", KEEPER_KIND_RESULT, 0, 1, KEEPER_REPLY_REFUSED, 0, KEEPER_REFUSED_RECORD_VALUE);
+    record("result -4095", KEEPER_KIND_RESULT, 0, -4095, KEEPER_REPLY_REFUSED, 0, KEEPER_REFUSED_NO_CALLBACK);
+    record("result -4096", KEEPER_KIND_RESULT, 0, -4096, KEEPER_REPLY_REFUSED, 0, KEEPER_REFUSED_RECORD_VALUE);
+    same("the number of kinds", 13, KEEPER_KIND_RESULT);
 }
 
-/* Records and questions on the table of the day: kinds 1 to 13, every reply and status, questions 0 to 5. */
+/* Records and questions on the table of the day: every kind, reply, question and status. */
 static void steps(void) {
     uint32_t p;
     load("a table", 0, day, day_len, FORM);
@@ -501,128 +439,6 @@ static void steps(void) {
     ask("suspend open", KEEPER_STATUS_SUSPENDING, KEEPER_ASK_STATUS, 2, 0);
     record("busy", KEEPER_KIND_RESULT, 2, -16, KEEPER_REPLY_FINISHED, 2, -16);
     ask("busy", KEEPER_STATUS_ACTIVE, KEEPER_ASK_STATUS, 2, 0);
-}
-
-/* ---- delays: kinds 14 to 18, questions 6 to 11, and where a state has what they set */
-
-static void delay_is(const char *what, long expected, uint32_t part) {
-    Buffer s = make(state, FORM);
-    int32_t answer = keeper_ask(s.at, s.len, KEEPER_ASK_DELAY, part, 0);
-    same(what, expected < 0 ? expected + 65536 : expected, answer);
-    same(what, expected, KEEPER_DELAY(answer));
-    drop(s);
-}
-
-/* A time of the bench by its two questions, and by its four bytes. */
-static void time_is(const char *what, uint32_t expected, uint32_t low, uint32_t high, uint32_t part, size_t at) {
-    Buffer s = make(state, FORM);
-    int32_t lower = keeper_ask(s.at, s.len, low, part, 0), upper = keeper_ask(s.at, s.len, high, part, 0);
-    same(what, (long)(expected & 0xFFFF), lower);
-    same(what, (long)(expected >> 16), upper);
-    holds(what, "its halves joined", KEEPER_TIME(lower, upper) == expected);
-    holds(what, "its bytes in the state",
-          (state[at] | (uint32_t)state[at + 1] << 8 | (uint32_t)state[at + 2] << 16 | (uint32_t)state[at + 3] << 24) == expected);
-    drop(s);
-}
-
-static void clock_is(const char *what, uint32_t expected) {
-    time_is(what, expected, KEEPER_ASK_CLOCK_LOW, KEEPER_ASK_CLOCK_HIGH, 0, 7057);
-    time_is(what, expected, KEEPER_ASK_CLOCK_LOW, KEEPER_ASK_CLOCK_HIGH, 0xFFFFFFFF, 7057);
-}
-
-static void last_busy_is(const char *what, uint32_t expected, uint32_t part) {
-    time_is(what, expected, KEEPER_ASK_LAST_BUSY_LOW, KEEPER_ASK_LAST_BUSY_HIGH, part, 6029 + 4 * part);
-}
-
-static void tick(const char *what, int value) { record(what, KEEPER_KIND_TICK, 0, value, KEEPER_REPLY_FINISHED, 0, 0); }
-
-/* The reference of the day alone: awake, with a delay of 1,500. Last busy at 250, it may sleep from 2,000 on. */
-static void delays(void) {
-    load("a table", 0, day, day_len, FORM);
-    clock_is("the clock of a loaded bench", 0);
-    record("enable", KEEPER_KIND_ENABLE, 1, 0, KEEPER_REPLY_FINISHED, 1, 0);
-    record("autosuspend, suspended", KEEPER_KIND_AUTOSUSPEND, 1, 0, KEEPER_REPLY_FINISHED, 1, 1);
-    record("wake", KEEPER_KIND_WAKE, 1, 0, KEEPER_REPLY_RUN_RESUME, 1, 0);
-    tick("tick, resume open", 250);
-    clock_is("tick, resume open", 250);
-    record("mark busy, resume open", KEEPER_KIND_MARK_BUSY, 1, 0, KEEPER_REPLY_FINISHED, 1, -115);
-    record("set delay, resume open", KEEPER_KIND_SET_DELAY, 1, 7, KEEPER_REPLY_FINISHED, 1, -115);
-    record("use autosuspend, resume open", KEEPER_KIND_USE_AUTOSUSPEND, 1, 1, KEEPER_REPLY_FINISHED, 1, -115);
-    record("autosuspend, resume open", KEEPER_KIND_AUTOSUSPEND, 1, 0, KEEPER_REPLY_FINISHED, 1, -115);
-    record("tick for part 1, resume open", KEEPER_KIND_TICK, 1, 1, KEEPER_REPLY_REFUSED, 1, KEEPER_REFUSED_RECORD_PART);
-    record("resumed", KEEPER_KIND_RESULT, 1, 0, KEEPER_REPLY_FINISHED, 1, 0);
-    last_busy_is("not marked", 0, 1);
-    delay_is("not set", 0, 1);
-    ask("not set", 0, KEEPER_ASK_AUTOSUSPEND, 1, 0);
-    record("set delay", KEEPER_KIND_SET_DELAY, 1, 1500, KEEPER_REPLY_FINISHED, 1, 0);
-    delay_is("set delay", 1500, 1);
-    holds("set delay", "its bytes in the state", memcmp(state + 5009, "\334\5\0\0", 4) == 0);
-    record("mark busy", KEEPER_KIND_MARK_BUSY, 1, 0, KEEPER_REPLY_FINISHED, 1, 0);
-    last_busy_is("mark busy", 250, 1);
-    last_busy_is("of another part", 0, 2);
-    record("autosuspend, not used", KEEPER_KIND_AUTOSUSPEND, 1, 0, KEEPER_REPLY_RUN_SUSPEND, 1, 0);
-    record("busy", KEEPER_KIND_RESULT, 1, -16, KEEPER_REPLY_FINISHED, 1, -16);
-    record("use autosuspend", KEEPER_KIND_USE_AUTOSUSPEND, 1, 1, KEEPER_REPLY_FINISHED, 1, 0);
-    ask("use autosuspend", 1, KEEPER_ASK_AUTOSUSPEND, 1, 0);
-    same("use autosuspend, its byte in the state", 1, state[1286]);
-    tick("tick", 1749);
-    record("autosuspend, too early", KEEPER_KIND_AUTOSUSPEND, 1, 0, KEEPER_REPLY_FINISHED, 1, -11);
-    record("idle, before the expiry", KEEPER_KIND_IDLE, 1, 0, KEEPER_REPLY_RUN_IDLE, 1, 0);
-    record("idle said 0", KEEPER_KIND_RESULT, 1, 0, KEEPER_REPLY_RUN_SUSPEND, 1, 0);
-    record("busy", KEEPER_KIND_RESULT, 1, -16, KEEPER_REPLY_FINISHED, 1, -16);
-    record("suspend, before the expiry", KEEPER_KIND_SUSPEND, 1, 0, KEEPER_REPLY_RUN_SUSPEND, 1, 0);
-    record("busy", KEEPER_KIND_RESULT, 1, -16, KEEPER_REPLY_FINISHED, 1, -16);
-    tick("tick by 0", 0);
-    clock_is("tick by 0", 1999);
-    tick("tick", 1);
-    record("autosuspend", KEEPER_KIND_AUTOSUSPEND, 1, 0, KEEPER_REPLY_RUN_SUSPEND, 1, 0);
-    tick("tick, suspend open", 3);
-    clock_is("tick, suspend open", 2003);
-    record("busy", KEEPER_KIND_RESULT, 1, -16, KEEPER_REPLY_FINISHED, 1, -16);
-}
-
-/* Negative delays, on the bench that `delays` left. */
-static void negative_delays(void) {
-    record("delay -1", KEEPER_KIND_SET_DELAY, 1, -1, KEEPER_REPLY_FINISHED, 1, 0);
-    delay_is("delay -1", -1, 1);
-    holds("delay -1", "its bytes in the state", memcmp(state + 5009, "\377\377\0\0", 4) == 0);
-    record("suspend, delay -1", KEEPER_KIND_SUSPEND, 1, 0, KEEPER_REPLY_FINISHED, 1, -11);
-    record("idle, delay -1", KEEPER_KIND_IDLE, 1, 0, KEEPER_REPLY_FINISHED, 1, -11);
-    record("autosuspend, delay -1", KEEPER_KIND_AUTOSUSPEND, 1, 0, KEEPER_REPLY_FINISHED, 1, -11);
-    record("delay -32768", KEEPER_KIND_SET_DELAY, 1, -32768, KEEPER_REPLY_FINISHED, 1, 0);
-    delay_is("delay -32768", -32768, 1);
-    record("suspend, delay -32768", KEEPER_KIND_SUSPEND, 1, 0, KEEPER_REPLY_FINISHED, 1, -11);
-    record("autosuspend not used", KEEPER_KIND_USE_AUTOSUSPEND, 1, 0, KEEPER_REPLY_FINISHED, 1, 0);
-    record("suspend, autosuspend not used", KEEPER_KIND_SUSPEND, 1, 0, KEEPER_REPLY_RUN_SUSPEND, 1, 0);
-    record("suspended", KEEPER_KIND_RESULT, 1, 0, KEEPER_REPLY_FINISHED, 1, 0);
-    record("use autosuspend", KEEPER_KIND_USE_AUTOSUSPEND, 1, 1, KEEPER_REPLY_FINISHED, 1, 0);
-    record("autosuspend, suspended and below 0", KEEPER_KIND_AUTOSUSPEND, 1, 0, KEEPER_REPLY_FINISHED, 1, -11);
-    record("delay 32767", KEEPER_KIND_SET_DELAY, 1, 32767, KEEPER_REPLY_FINISHED, 1, 0);
-    delay_is("delay 32767", 32767, 1);
-    record("autosuspend, suspended and early", KEEPER_KIND_AUTOSUSPEND, 1, 0, KEEPER_REPLY_FINISHED, 1, 1);
-}
-
-/* The end of the clock, and a last busy past it: a state may have any. */
-static void last_times(void) {
-    load("a table", 0, day, day_len, FORM);
-    memset(state + 6029, 255, 4);
-    state[7057] = 245;
-    memset(state + 7058, 255, 3);
-    last_busy_is("past the clock", 0xFFFFFFFF, 0);
-    clock_is("10 before the end", 0xFFFFFFF5);
-    record("tick past the end", KEEPER_KIND_TICK, 0, 11, KEEPER_REPLY_FINISHED, 0, -75);
-    clock_is("tick past the end", 0xFFFFFFF5);
-    tick("tick to the end", 10);
-    clock_is("tick to the end", 0xFFFFFFFF);
-    record("tick past the end", KEEPER_KIND_TICK, 0, 1, KEEPER_REPLY_FINISHED, 0, -75);
-    tick("tick by 0 at the end", 0);
-    record("set active", KEEPER_KIND_SET_ACTIVE, 0, 0, KEEPER_REPLY_FINISHED, 0, 0);
-    record("enable", KEEPER_KIND_ENABLE, 0, 0, KEEPER_REPLY_FINISHED, 0, 0);
-    record("use autosuspend", KEEPER_KIND_USE_AUTOSUSPEND, 0, 1, KEEPER_REPLY_FINISHED, 0, 0);
-    record("delay 1", KEEPER_KIND_SET_DELAY, 0, 1, KEEPER_REPLY_FINISHED, 0, 0);
-    record("autosuspend, not before the end of the clock", KEEPER_KIND_AUTOSUSPEND, 0, 0, KEEPER_REPLY_FINISHED, 0, -11);
-    record("delay 0", KEEPER_KIND_SET_DELAY, 0, 0, KEEPER_REPLY_FINISHED, 0, 0);
-    record("autosuspend, at the end of the clock", KEEPER_KIND_AUTOSUSPEND, 0, 0, KEEPER_REPLY_RUN_SUSPEND, 0, 0);
 }
 
 /* ---- the greatest answers */
@@ -725,27 +541,9 @@ static void whole_day(const char *folder) {
     shift = 0;
 }
 
-/* The log of examples/autosuspend, whole and a byte at a time. */
-static void delays_shipped(const char *folder) {
-    static uint8_t table[64], log[92], expected[92], last[KEEPER_STATE_BYTES];
-    size_t len = read_file(folder, "table.bin", table, sizeof table), i;
-    same("its log.bin", 92, (long)read_file(folder, "log.bin", log, sizeof log));
-    same("its replies.bin", 92, (long)read_file(folder, "replies.bin", expected, sizeof expected));
-    load("a log with delays", 0, table, len, FORM);
-    feed("a log with delays", 23, state, FORM, log, 92, KEEPER_REPLY_BYTES(92));
-    holds("a log with delays", "its replies", memcmp(replies, expected, 92) == 0);
-    memcpy(last, state, FORM);
-    load("a log with delays", 0, table, len, FORM);
-    for (i = 0; i < 92; i++) {
-        feed("a log with delays, a byte at a time", i % 4 == 3, state, FORM, log + i, 1, 4);
-        if (i % 4 == 3) holds("a log with delays, a byte at a time", "a reply", memcmp(replies, expected + i - 3, 4) == 0);
-    }
-    holds("a log with delays, a byte at a time", "the state at its end", memcmp(state, last, FORM) == 0);
-}
-
 int main(int count, char **names) {
-    if (count != 3) {
-        fprintf(stderr, "usage: constants DAY DELAYS\n");
+    if (count != 2) {
+        fprintf(stderr, "usage: constants DAY\n");
         return 2;
     }
     setvbuf(stdout, NULL, _IOLBF, BUFSIZ);
@@ -756,13 +554,9 @@ int main(int count, char **names) {
     pieces();
     kinds();
     steps();
-    delays();
-    negative_delays();
-    last_times();
     greatest();
     nulls();
     whole_day(names[1]);
-    delays_shipped(names[2]);
     printf("%ld checks, %ld failed\n", checks, failures);
     return failures != 0;
 }

@@ -1,5 +1,6 @@
 // The bench that a C host keeps as bytes, and the questions by their numbers.
-ghost use Rattle.std.specs.Prelude.{◌≡◌};
+ghost use Rattle.std.specs.Prelude.{◌≡◌, false};
+ghost use Rattle.model.specs.Questions.{told};
 ghost use Rattle.keeper_bench.specs.Translate.{state_of};
 ghost use Rattle.keeper_answers.specs.Told.{told_code};
 ghost use Rattle.c_bench.specs.Benches.{BenchIs};
@@ -25,6 +26,16 @@ pub fn bench_in(state: &[u8]) -> Bench
     }
 }
 
+// An unknown question: 21, then 24.
+fn unknown(b: Bench) -> u64
+    ensures { result ≡ told_code (told (state_of b) false 0) }
+{
+    if !b.sound() {
+        return 21;
+    }
+    24
+}
+
 // A question about device p, in the wake set's question about p and q: the refusal's number and 256 times what is told.
 pub fn asked(b: Bench, question: u32, p: u8, q: u8) -> u64
     ensures { result ≡ told_code (ask question (state_of b) p q) }
@@ -36,6 +47,6 @@ pub fn asked(b: Bench, question: u32, p: u8, q: u8) -> u64
         3 => number_code(keeper_questions::user_holds(b, p)),
         4 => member_code(keeper_questions::in_wake_set(b, p, q)),
         5 => number_code(keeper_questions::parents_above(b, p)),
-        _ => c_timers::asked(b, question, p),
+        _ => unknown(b),
     }
 }

@@ -6,19 +6,19 @@ use Prim.Native.Nat.{ℕ, ◌<◌, ◌≤◌}
 use native.Mathlib.Omega.{arith}
 use lib.Dec.{leb}
 use borrow.Author.Tests.{leb-false, not-true, ne_eqb}
-use Rattle.model.specs.Limits.{LINKS, NONE, MAXCLOCK}
+use Rattle.model.specs.Limits.{LINKS, NONE}
 use Rattle.model.specs.Logic.{if◌then◌else◌, ◌or◌, bit}
-use Rattle.model.specs.State.{State, status_at, holds_at, children_at, usage, delay_at, busy_at, auto_at, clock_of}
+use Rattle.model.specs.State.{State, status_at, holds_at, children_at, usage}
 use Rattle.model.specs.Sound.{Sound}
 use Rattle.model.specs.SoundTest.{sound_test}
 use Rattle.model.specs.WakeSet.{in_wake}
-use Rattle.model.specs.Questions.{Told, told, parents_above, tell_wake, tell_busy, tell_clock}
+use Rattle.model.specs.Questions.{Told, told, parents_above, tell_wake}
 use Rattle.model.proofs.Basics.{by_if, few_devices_lem}
 use Rattle.model.proofs.Logic.{tests}
 use Rattle.model.proofs.Answers.{usage_low, children_low, above_low}
 use Rattle.model.proofs.SoundTest.{sound_tested}
 use Rattle.c_calls.specs.Numbers.{RANGE, device_of}
-use Rattle.c_calls.specs.Questions.{Question, low, high, part_of, ask_timers, ask}
+use Rattle.c_calls.specs.Questions.{Question, ask}
 use Rattle.c_calls.proofs.Answers.{device_known, device_same}
 
 -- what a result can hold
@@ -124,82 +124,8 @@ unknown_fair =
       small = λ s p q h. told_small s h _ _ (λ k. omega arith);
     }
 
--- ---- autosuspend
-delay_fits : (s : State) (p : ℕ) → Sound s → p < s.wiring.n → delay_at s p < RANGE
-delay_fits s p h l = let u = h.timed.delays.used p l in omega arith
-
-auto_fits : (s : State) (p : ℕ) → Sound s → p < s.wiring.n → auto_at s p < RANGE
-auto_fits s p h l = let u = h.timed.autos.used p l in omega arith
-
--- a half of a number is told as the number is
-push : (f : Told → Told) (c : Bool) (a b : Told) → f (if c then a else b) ≡ (if c then f a else f b)
-unfolding if◌then◌else◌
-push f true a b = refl
-push f false a b = refl
-
-part_told : (part : ℕ → ℕ) → part 0 ≡ 0 → (s : State) (known : Bool) (v : ℕ) → part_of part (told s known v) ≡ told s known (part v)
-unfolding told
-part_told part z s known v = push (part_of part) _ _ _ ∙ rw (push (part_of part) (not known) (refusal 24) (record { number = 0; value = v }), z)
-
--- a half of 32 bits
-record Half (part : ℕ → ℕ) : Type 0 where
-  none : part 0 ≡ 0
-  fits : (v : ℕ) → v ≤ MAXCLOCK → part v < RANGE
-
-low_half : Half low
-low_half = record { none = refl; fits = λ v l. omega arith }
-
-high_half : Half high
-high_half = record { none = refl; fits = λ v l. omega arith }
-
-fair_as : {f g : Question} → ((s : State) (p q : ℕ) → f s p q ≡ g s p q) → Fair g → Fair f
-fair_as e h =
-    record {
-      unsound = λ s p q u. e s p q ∙ h.unsound s p q u;
-      device = λ s p q k. e s _ _ ∙ h.device s p q k ∙ sym (e s p q);
-      small = λ s p q k. rw (e s p q) (h.small s p q k);
-    }
-
-busy_fair : (part : ℕ → ℕ) → Half part → Fair (λ s p q. part_of part (tell_busy s p))
-busy_fair part half =
-    fair_as (λ s p q. part_told part half.none s _ _)
-    (about_fair (λ s p. part (busy_at s p)) (λ s p h l. half.fits (busy_at s p) (h.timed.busies.used p l)))
-
-clock_fair : (part : ℕ → ℕ) → Half part → Fair (λ s p q. part_of part (tell_clock s))
-clock_fair part half =
-    fair_as (λ s p q. part_told part half.none s true (clock_of s))
-    (record {
-      unsound = λ s p q e. told_unsound s _ _ e;
-      device = λ s p q h. refl;
-      small = λ s p q h. told_small s h _ _ (λ k. half.fits (clock_of s) (h.timed.clock.used 0 (omega arith)));
-    })
-
-timers_fair : (question : ℕ) → Fair (ask_timers question)
-unfolding ask_timers
-timers_fair question =
-    by_if Fair _ _ _ (λ e. about_fair delay_at delay_fits)
-    (λ e. by_if Fair _ _ _ (λ e. about_fair auto_at auto_fits)
-    (λ e. by_if Fair _ _ _ (λ e. busy_fair low low_half)
-    (λ e. by_if Fair _ _ _ (λ e. busy_fair high high_half)
-    (λ e. by_if Fair _ _ _ (λ e. clock_fair low low_half)
-    (λ e. by_if Fair _ _ _ (λ e. clock_fair high high_half) (λ e. unknown_fair))))))
-
--- none of them looks at the second part
-one_part : (question : ℕ) (s : State) (p q : ℕ) → ask_timers question s p q ≡ ask_timers question s p 0
-unfolding ask_timers
-one_part question s p q =
-    by_if Same _ _ _ (λ e. refl)
-    (λ e. by_if Same _ _ _ (λ e. refl)
-    (λ e. by_if Same _ _ _ (λ e. refl)
-    (λ e. by_if Same _ _ _ (λ e. refl)
-    (λ e. by_if Same _ _ _ (λ e. refl)
-    (λ e. by_if Same _ _ _ (λ e. refl) (λ e. refl))))))
-  where
-    Same : Question → Type 0
-    Same f = f s p q ≡ f s p 0
-
 -- ---- all of them
-pub ask_past : (question : ℕ) (s : State) (p q : ℕ) → 6 ≤ question → ask question s p q ≡ ask_timers question s p 0
+pub ask_past : (question : ℕ) (s : State) (p q : ℕ) → 6 ≤ question → ask question s p q ≡ told s false 0
 unfolding ask if◌then◌else◌
 ask_past question s p q l =
     rw (
@@ -210,7 +136,6 @@ ask_past question s p q l =
       ne_eqb question 4 (omega arith),
       ne_eqb question 5 (omega arith),
     )
-    (one_part question s p q)
 
 pub ask_fair : (question : ℕ) → Fair (ask question)
 unfolding ask
@@ -220,4 +145,4 @@ ask_fair question =
     (λ e. by_if Fair _ _ _ (λ e. about_fair children_at children_fit)
     (λ e. by_if Fair _ _ _ (λ e. about_fair holds_at holds_fit)
     (λ e. by_if Fair _ _ _ (λ e. wake_fair)
-    (λ e. by_if Fair _ _ _ (λ e. about_fair parents_above above_fit) (λ e. timers_fair question))))))
+    (λ e. by_if Fair _ _ _ (λ e. about_fair parents_above above_fit) (λ e. unknown_fair))))))

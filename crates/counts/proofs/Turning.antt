@@ -69,7 +69,7 @@ abbrev counted : State → List ℕ → List ℕ → List ℕ → State
 counted s z children linked =
     let d = s.devices in
     let devices : Devices = record { status = z; holds = d.holds; depth = d.depth; error = d.error; children = children; linked = linked } in
-    record { wiring = s.wiring; devices = devices; callback = s.callback; carry = s.carry; timers = s.timers }
+    record { wiring = s.wiring; devices = devices; callback = s.callback; carry = s.carry }
 
 module _ (w : Wiring) (r : Ordered w) (p : ℕ) (up : Bool) where
   abbrev OfP : ℕ → Bool

@@ -10,32 +10,26 @@ use Rattle.keeper_bench.specs.Methods.{record_for}
 use Rattle.export_bench.specs.Asked.{answers_about, asked_of}
 use Rattle.export_bench.specs.Called.{methods, method_of}
 
--- i is none of k numbers from b on, and what is known before
-unfoldable pub Passed : Type 0 → ℕ → ℕ → ℕ → Type 0
-Passed T i b zero = T
-Passed T i b (suc k) = Passed T i b k × (i ≡ b + k → ⊥)
+-- i is none of k numbers from b on
+unfoldable pub Passed : ℕ → ℕ → ℕ → Type 0
+Passed i b zero = Unit {0}
+Passed i b (suc k) = Passed i b k × (i ≡ b + k → ⊥)
 
-pub past : (T : Type 0) (i b k : ℕ) → b ≤ i → Passed T i b k → b + k ≤ i
+pub past : (i b k : ℕ) → b ≤ i → Passed i b k → b + k ≤ i
 unfolding Passed
-past T i b zero l r = omega arith
-past T i b (suc k) l r = let p = past T i b k l r.0 in let ne = r.1 in omega arith
+past i b zero l r = omega arith
+past i b (suc k) l r = let p = past i b k l r.0 in let ne = r.1 in omega arith
 
-pub last_asked : (s : State) (question p q : ℕ) → 9 ≤ question → asked_of s question p q ≡ tell_wake s p q
+pub last_asked : (s : State) (question p q : ℕ) → 5 ≤ question → asked_of s question p q ≡ tell_wake s p q
 unfolding asked_of answers_about
 last_asked s question p q l = get_or-eq_default (answers_about s p) (tell_wake s p q) l
 
--- no kind from 1 to 12 is left, and none from 14 to 18
-pub last_called : (kind p v : ℕ) → (1 ≤ kind → 13 ≤ kind) → (14 ≤ kind → 19 ≤ kind) → method_of kind p v ≡ record_for 13 p v
+-- no kind from 1 to 12 is left
+pub last_called : (kind p v : ℕ) → (1 ≤ kind → 13 ≤ kind) → method_of kind p v ≡ record_for 13 p v
 unfolding method_of methods
-last_called kind p v low high =
-    elim (dec_lt 0 kind) [
-      | yes l ↦ elim (dec_lt 13 kind) [ yes m ↦ get_or-eq_default (methods p v) (record_for 13 p v) (high m) | no m ↦ results l m ]
-      | no l ↦ first kind l
-    ]
+last_called kind p v far =
+    elim (dec_lt 0 kind) [ yes l ↦ get_or-eq_default (methods p v) (record_for 13 p v) (far l) | no l ↦ first kind l ]
   where
-    results : 0 < kind → (13 < kind → ⊥) → method_of kind p v ≡ record_for 13 p v
-    results l m = let far = low l in let e : kind ≡ 13 = omega arith in rw e
-
     first : (k : ℕ) → (0 < k → ⊥) → method_of k p v ≡ record_for 13 p v
     first zero l = refl
     first (suc k) l = absurd (l (omega arith))

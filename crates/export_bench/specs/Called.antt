@@ -13,10 +13,9 @@ packed r = r.kind + 256 * r.device + 65536 * r.code
 unfoldable pub methods : ℕ → ℕ → List Rec
 methods p v =
     record_for 13 p v ∷ record_for 1 p 0 ∷ record_for 2 p 0 ∷ record_for 3 p 0 ∷ record_for 4 p 0 ∷ record_for 5 p 0 ∷ record_for 6 p 0
-    ∷ record_for 7 p 0 ∷ record_for 8 p 0 ∷ record_for 9 p 0 ∷ record_for 10 p 0 ∷ record_for 11 p 0 ∷ record_for 12 p v ∷ record_for 13 p v
-    ∷ record_for 14 0 v ∷ record_for 15 p 0 ∷ record_for 16 p v ∷ record_for 17 p v ∷ record_for 18 p 0 ∷ []
+    ∷ record_for 7 p 0 ∷ record_for 8 p 0 ∷ record_for 9 p 0 ∷ record_for 10 p 0 ∷ record_for 11 p 0 ∷ record_for 12 p v ∷ []
 
--- 0, and a kind above 18, stands for the method of results
+-- 0, and a kind above 12, stands for the method of results
 unfoldable pub method_of : ℕ → ℕ → ℕ → Rec
 method_of kind p v = get_or (methods p v) kind (record_for 13 p v)
 

@@ -15,8 +15,8 @@ use keeper_bench::methods::{Outcome, Requested};
 use memory::{BYTES, WORDS};
 use request_answer::Reply;
 
-// A question on the memory of a bench: status, user holds, usage count, child count, parents above, delay, last busy, the flag and the
-// clock from 0 on, else the membership of device q in the wake set of device p.
+// A question on the memory of a bench: status, user holds, usage count, child count and parents above from 0 on, else the membership of
+// device q in the wake set of device p.
 #[unsafe(no_mangle)]
 pub extern "C" fn tests_ask<'a>(
     bytes: &'a [u8; BYTES],
@@ -37,15 +37,11 @@ pub extern "C" fn tests_ask<'a>(
         2 => number_code(keeper_questions::usage_count(b, p)),
         3 => number_code(keeper_questions::child_count(b, p)),
         4 => number_code(keeper_questions::parents_above(b, p)),
-        5 => number_code(keeper_timers::autosuspend_delay(b, p)),
-        6 => number_code(keeper_timers::last_busy(b, p)),
-        7 => number_code(keeper_timers::uses_autosuspend(b, p)),
-        8 => number_code(keeper_timers::clock(b)),
         _ => member_code(keeper_questions::in_wake_set(b, p, q)),
     }
 }
 
-// The method of a kind, that of results for any kind that is none of these. A tick names no device.
+// The method of a kind, that of results for any kind above 12.
 fn called(b: Bench, kind: u8, p: u8, v: u16) -> Requested
     ensures { Gives b (method_of kind p v) result }
 {
@@ -62,11 +58,6 @@ fn called(b: Bench, kind: u8, p: u8, v: u16) -> Requested
         10 => b.set_active(p),
         11 => b.set_suspended(p),
         12 => b.ignore_children(p, v),
-        14 => b.tick(v),
-        15 => b.mark_busy(p),
-        16 => b.set_delay(p, v),
-        17 => b.use_autosuspend(p, v),
-        18 => b.autosuspend(p),
         _ => b.result(p, v),
     }
 }

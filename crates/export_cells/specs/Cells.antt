@@ -1,21 +1,21 @@
--- The cells of a state by the number of a field and a row. Fields 0 to 13 are the columns: those of the devices that have bytes, those of the
--- links, those of the devices that have words. Field 14 has the numbers of the whole bench. Assumes nothing.
+-- The cells of a state by the number of a field and a row. Fields 0 to 10 are the columns: those of the devices that have bytes, those of the
+-- links, those of the devices that have words. Field 11 has the numbers of the whole bench. Assumes nothing.
 use Rattle.std.specs.Prelude.{List, [], ◌∷◌, ℕ, ◌-◌, ◌<◌, ◌≤◌, ◌%◌, length, get_or, set}
-use Rattle.model.specs.State.{State, clock_of, with_holds, with_depth, with_error, with_ignore, with_callback, with_carry, with_delay, with_busy, with_auto, with_clock}
+use Rattle.model.specs.State.{State, with_holds, with_depth, with_error, with_ignore, with_callback, with_carry}
 use Rattle.memory.specs.Layout.{BYTES, WORDS, Becomes}
 use Rattle.memory.specs.Cells.{with_status_cell, with_children, with_linked, with_count, with_links, with_parent, with_consumer, with_supplier, with_flags}
 
 -- the numbers: the carried bytes stand last
 unfoldable pub numbers_of : State → List ℕ
 numbers_of s =
-    s.wiring.n ∷ s.wiring.m ∷ s.callback.kind ∷ s.callback.asked ∷ s.callback.target ∷ s.carry.used ∷ clock_of s ∷ s.carry.bytes
+    s.wiring.n ∷ s.wiring.m ∷ s.callback.kind ∷ s.callback.asked ∷ s.callback.target ∷ s.carry.used ∷ s.carry.bytes
 
 -- the fields
 unfoldable pub fields_of : State → List (List ℕ)
 fields_of s =
-    s.wiring.parent ∷ s.wiring.ignore ∷ s.devices.status ∷ s.devices.depth ∷ s.devices.children ∷ s.timers.auto
+    s.wiring.parent ∷ s.wiring.ignore ∷ s.devices.status ∷ s.devices.depth ∷ s.devices.children
     ∷ s.wiring.consumer ∷ s.wiring.supplier ∷ s.wiring.flags
-    ∷ s.devices.holds ∷ s.devices.error ∷ s.devices.linked ∷ s.timers.delay ∷ s.timers.busy
+    ∷ s.devices.holds ∷ s.devices.error ∷ s.devices.linked
     ∷ numbers_of s ∷ []
 
 -- a cell; 0 where there is none
@@ -30,19 +30,19 @@ numbers_set v s =
     ∷ with_callback s b s.callback.asked s.callback.target
     ∷ with_callback s s.callback.kind b s.callback.target
     ∷ with_callback s s.callback.kind s.callback.asked b
-    ∷ with_carry s s.carry.bytes b ∷ with_clock s v ∷ []
+    ∷ with_carry s s.carry.bytes b ∷ []
 
 -- number i set to v; beyond the first they are the carried bytes
 unfoldable pub with_number : ℕ → ℕ → State → State
-with_number i v s = get_or (numbers_set v s) i (with_carry s (set s.carry.bytes (i - 7) (v % 256)) s.carry.used)
+with_number i v s = get_or (numbers_set v s) i (with_carry s (set s.carry.bytes (i - 6) (v % 256)) s.carry.used)
 
 -- the states with v in a row of each field in turn
 unfoldable pub cells_set : ℕ → ℕ → State → List State
 cells_set row v s =
     let b = v % 256 in
-    with_parent s row b ∷ with_ignore s row b ∷ with_status_cell s row b ∷ with_depth s row b ∷ with_children s row b ∷ with_auto s row b
+    with_parent s row b ∷ with_ignore s row b ∷ with_status_cell s row b ∷ with_depth s row b ∷ with_children s row b
     ∷ with_consumer s row b ∷ with_supplier s row b ∷ with_flags s row b
-    ∷ with_holds s row v ∷ with_error s row v ∷ with_linked s row v ∷ with_delay s row v ∷ with_busy s row v
+    ∷ with_holds s row v ∷ with_error s row v ∷ with_linked s row v
     ∷ with_number row v s ∷ []
 
 -- a cell set to v; the state itself where there is none
@@ -55,5 +55,5 @@ pub record NumberSet (i v : ℕ) (bytes₀ words₀ bytes words : List ℕ) : Ty
 
 -- the same of a cell; for a column always
 pub record CellSet (field row v : ℕ) (bytes₀ words₀ bytes words : List ℕ) : Type 0 where
-  pub column : field < 14 → Becomes (with_cell field row v) bytes₀ words₀ bytes words
+  pub column : field < 11 → Becomes (with_cell field row v) bytes₀ words₀ bytes words
   pub is : BYTES ≤ length bytes₀ → WORDS ≤ length words₀ → Becomes (with_cell field row v) bytes₀ words₀ bytes words

@@ -1,6 +1,6 @@
-// A cell of the memory by its field and its row, as functions that Rust links. Fields 0 to 13 are the columns: parent, ignore, status,
-// depth, children, auto; consumer, supplier, flags; holds, error, linked, delay, busy. Field 14 has the numbers of the whole bench: n, m,
-// the callback's kind, the device asked, the target, how many bytes are carried, the clock, and the carried bytes.
+// A cell of the memory by its field and its row, as functions that Rust links. Fields 0 to 10 are the columns: parent, ignore, status,
+// depth, children; consumer, supplier, flags; holds, error, linked. Field 11 has the numbers of the whole bench: n, m, the callback's kind,
+// the device asked, the target, how many bytes are carried, and those.
 ghost use Rattle.std.specs.Prelude.{◌≡◌, ◌%◌, get_or, set};
 ghost use Rattle.model.specs.State.{with_carry};
 ghost use Rattle.memory.specs.Layout.{state_in, WholeBytesBecome};
@@ -20,8 +20,8 @@ fn low(x: u32) -> u8
 fn number_at<'a>(bytes: &'a [u8; BYTES], words: &'a [u32; WORDS], i: usize) -> u32
     ensures { result ≡ get_or (numbers_of (state_in bytes.now words.now)) i 0 }
 {
-    if 7 <= i {
-        return word8(memory::carried(bytes, i - 7));
+    if 6 <= i {
+        return word8(memory::carried(bytes, i - 6));
     }
     match i {
         0 => word8(memory::devices(bytes)),
@@ -29,8 +29,7 @@ fn number_at<'a>(bytes: &'a [u8; BYTES], words: &'a [u32; WORDS], i: usize) -> u
         2 => word8(memory::callback(bytes)),
         3 => word8(memory::asked(bytes)),
         4 => word8(memory::target(bytes)),
-        5 => word8(memory::used(bytes)),
-        _ => memory::clock(words),
+        _ => word8(memory::used(bytes)),
     }
 }
 
@@ -45,16 +44,16 @@ pub extern "C" fn tests_cell<'a>(
     ensures { result ≡ cell_of (state_in bytes.now words.now) field row }
 {
     let i = wide(row);
-    if field < 6 {
+    if field < 5 {
         return word8(memory::byte_at(bytes, field as usize, i));
     }
-    if field < 9 {
-        return word8(memory::link_at(bytes, (field - 6) as usize, i));
+    if field < 8 {
+        return word8(memory::link_at(bytes, (field - 5) as usize, i));
     }
-    if field < 14 {
-        return memory::word_at(words, (field - 9) as usize, i);
+    if field < 11 {
+        return memory::word_at(words, (field - 8) as usize, i);
     }
-    if field < 15 {
+    if field < 12 {
         return number_at(bytes, words, i);
     }
     0
@@ -89,8 +88,8 @@ fn set_number(bytes: &mut [u8; BYTES], words: &mut [u32; WORDS], i: usize, value
     let kind = memory::callback(bytes);
     let asked = memory::asked(bytes);
     let target = memory::target(bytes);
-    if 7 <= i {
-        set_carried_byte(bytes, i - 7, v);
+    if 6 <= i {
+        set_carried_byte(bytes, i - 6, v);
         return;
     }
     match i {
@@ -99,8 +98,7 @@ fn set_number(bytes: &mut [u8; BYTES], words: &mut [u32; WORDS], i: usize, value
         2 => memory::set_callback(bytes, v, asked, target),
         3 => memory::set_callback(bytes, kind, v, target),
         4 => memory::set_callback(bytes, kind, asked, v),
-        5 => set_used(bytes, v),
-        _ => memory::set_clock(words, value),
+        _ => set_used(bytes, v),
     }
 }
 
@@ -117,19 +115,19 @@ pub extern "C" fn tests_set_cell(
 {
     let i = wide(row);
     let v = low(value);
-    if field < 6 {
+    if field < 5 {
         memory::set_byte_at(bytes, field as usize, i, v);
         return;
     }
-    if field < 9 {
-        memory::set_link_at(bytes, (field - 6) as usize, i, v);
+    if field < 8 {
+        memory::set_link_at(bytes, (field - 5) as usize, i, v);
         return;
     }
-    if field < 14 {
-        memory::set_word_at(words, (field - 9) as usize, i, value);
+    if field < 11 {
+        memory::set_word_at(words, (field - 8) as usize, i, value);
         return;
     }
-    if field < 15 {
+    if field < 12 {
         set_number(bytes, words, i, value);
     }
 }

@@ -27,7 +27,6 @@ with_device_entries t k s =
       devices = record { status = d.status; holds = d.holds; depth = stored (λ p. 1) k d.depth; error = d.error; children = d.children; linked = d.linked };
       callback = s.callback;
       carry = s.carry;
-      timers = s.timers;
     }
 
 -- the first k links: consumer, supplier and flags
@@ -48,5 +47,4 @@ with_link_entries t k s =
       devices = s.devices;
       callback = s.callback;
       carry = s.carry;
-      timers = s.timers;
     }

@@ -137,39 +137,4 @@ impl Bench {
     {
         self.take(13, device, value)
     }
-
-    // Kind 14: the clock goes on by a value of 0 to 32,767 milliseconds. It is about the whole bench, so no device is named.
-    pub fn tick(mut self, value: u16) -> Requested
-        ensures { Gives self (record_for 14 0 value) result }
-    {
-        self.take(14, 0, value)
-    }
-
-    // Kind 15: last busy becomes the clock.
-    pub fn mark_busy(mut self, device: u8) -> Requested
-        ensures { Gives self (record_for 15 device 0) result }
-    {
-        self.take(15, device, 0)
-    }
-
-    // Kind 16, to any signed value as it stands in a record.
-    pub fn set_delay(mut self, device: u8, value: u16) -> Requested
-        ensures { Gives self (record_for 16 device value) result }
-    {
-        self.take(16, device, value)
-    }
-
-    // Kind 17, to a value of 0 or 1.
-    pub fn use_autosuspend(mut self, device: u8, value: u16) -> Requested
-        ensures { Gives self (record_for 17 device value) result }
-    {
-        self.take(17, device, value)
-    }
-
-    // Kind 18.
-    pub fn autosuspend(mut self, device: u8) -> Requested
-        ensures { Gives self (record_for 18 device 0) result }
-    {
-        self.take(18, device, 0)
-    }
 }

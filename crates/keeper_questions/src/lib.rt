@@ -40,7 +40,7 @@ fn knows_both(n: u8, p: u8, q: u8) -> bool
 }
 
 // The checks of every question: the bench is sound, and the devices that it names are known.
-pub fn checked(b: Bench, known: bool) -> Check
+fn checked(b: Bench, known: bool) -> Check
     ensures { Checked (state_of b) known result }
 {
     if !b.sound() {
@@ -53,7 +53,7 @@ pub fn checked(b: Bench, known: bool) -> Check
 }
 
 // The checks of a question about device p, and of one about p and q.
-pub fn about(b: Bench, p: u8) -> Check
+fn about(b: Bench, p: u8) -> Check
     ensures { Checked (state_of b) (not (leb (state_of b).wiring.n p)) result }
 {
     checked(b, knows(devices(&b.bytes), p))

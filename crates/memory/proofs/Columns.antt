@@ -2,7 +2,7 @@
 use mathlib.Core.Path.{◌≡◌, refl}
 use mathlib.Core.List.{List}
 use Prim.Native.Nat.{ℕ}
-use Rattle.memory.specs.Layout.{PARENT, IGNORE, STATUS, DEPTH, CHILDREN, AUTO, CONSUMER, SUPPLIER, FLAGS, HOLDS, ERROR, LINKED, DELAY, BUSY, byte_col, link_col, word_col, state_in}
+use Rattle.memory.specs.Layout.{PARENT, IGNORE, STATUS, DEPTH, CHILDREN, CONSUMER, SUPPLIER, FLAGS, HOLDS, ERROR, LINKED, byte_col, link_col, word_col, state_in}
 
 module _ (bytes words : List ℕ) where
   pub parent_page : byte_col PARENT bytes ≡ (state_in bytes words).wiring.parent
@@ -48,15 +48,3 @@ module _ (bytes words : List ℕ) where
   pub linked_page : word_col LINKED words ≡ (state_in bytes words).devices.linked
   unfolding state_in
   linked_page = refl
-
-  pub auto_page : byte_col AUTO bytes ≡ (state_in bytes words).timers.auto
-  unfolding state_in
-  auto_page = refl
-
-  pub delay_page : word_col DELAY words ≡ (state_in bytes words).timers.delay
-  unfolding state_in
-  delay_page = refl
-
-  pub busy_page : word_col BUSY words ≡ (state_in bytes words).timers.busy
-  unfolding state_in
-  busy_page = refl

@@ -4,20 +4,20 @@ use mathlib.Core.List.{List, [], ◌∷◌, ◌++◌}
 use Prim.Native.Nat.{ℕ, suc, ◌+◌, ◌*◌, ◌<◌, ◌≤◌}
 use native.Mathlib.Omega.{arith}
 use native.Mathlib.Nat.{mul-le-mul_left, mul-suc}
-use lib.ListN.{length, get_or, replicate, take, drop, length-append, length-take, length-drop, take-append-drop}
+use lib.ListN.{length, get_or, replicate, take, drop, length-append, length-take, length-drop, take-append-drop, drop_of_length-le}
 use lib.Seq.{drop-cons, drop-drop, take_all}
 use Rattle.model.specs.Limits.{ROWS, LINKS}
-use Rattle.model.specs.State.{State, no_timers, at_rest, empty_state}
+use Rattle.model.specs.State.{State, at_rest, empty_state}
 use Rattle.model.specs.Sound.{Sound}
 use Rattle.model.proofs.SoundTest.{Shaped, sound_shaped}
-use Rattle.memory.specs.Layout.{PARENT, IGNORE, STATUS, DEPTH, CHILDREN, AUTO, CONSUMER, SUPPLIER, FLAGS, HOLDS, ERROR, LINKED, DELAY, BUSY, BYTEPAGES, LINKPAGES, WORDPAGES}
-use Rattle.memory.specs.Layout.{CLOCK, WORDNUMBERS, BYTENUMBERS, CARRIED, LINKSAT, BYTETAIL, WORDTAIL, BYTES, WORDS}
-use Rattle.memory.specs.Layout.{area, page, device_col, link_col, byte_tail, word_tail, state_in, byte_numbers, word_numbers, bytes_of, words_of, OneMemory}
+use Rattle.memory.specs.Layout.{PARENT, IGNORE, STATUS, DEPTH, CHILDREN, CONSUMER, SUPPLIER, FLAGS, HOLDS, ERROR, LINKED, BYTEPAGES, LINKPAGES, WORDPAGES}
+use Rattle.memory.specs.Layout.{LINKCOUNT, WORDNUMBERS, BYTENUMBERS, CARRIED, LINKSAT, BYTETAIL, WORDTAIL, BYTES, WORDS}
+use Rattle.memory.specs.Layout.{area, page, device_col, link_col, byte_tail, word_tail, state_in, byte_numbers, bytes_of, words_of, OneMemory}
 use Rattle.memory.proofs.Pages.{area_length, take_area, area_area, tail_length}
 
 -- ---- a list cut into areas
 -- an area and what follows it
-pub cut : (from size next : ℕ) (cells : List ℕ) {rest : List ℕ} → from + size ≡ next → rest ≡ drop next cells → area from size cells ++ rest ≡ drop from cells
+cut : (from size next : ℕ) (cells : List ℕ) {rest : List ℕ} → from + size ≡ next → rest ≡ drop next cells → area from size cells ++ rest ≡ drop from cells
 unfolding area
 cut from size next cells e h = rw (h, ← e, ← drop-drop size from cells) (take-append-drop size (drop from cells))
 
@@ -89,19 +89,19 @@ module _ (bytes words : List ℕ) where
       (device_cut bytes BYTEPAGES STATUS (omega arith) (omega arith)
       (device_cut bytes BYTEPAGES DEPTH (omega arith) (omega arith)
       (device_cut bytes BYTEPAGES CHILDREN (omega arith) (omega arith)
-      (device_cut bytes BYTEPAGES AUTO (omega arith) (omega arith)
       (link_cut bytes CONSUMER (omega arith) (omega arith)
       (link_cut bytes SUPPLIER (omega arith) (omega arith)
       (link_cut bytes FLAGS (omega arith) (omega arith)
-      (numbers_of e)))))))))
+      (numbers_of e))))))))
 
-  -- the link count, then the clock
-  word_numbers_of : length words ≡ WORDS → word_numbers (state_in bytes words) ≡ drop WORDTAIL words
-  unfolding word_numbers state_in word_tail WORDS
-  word_numbers_of e =
+  word_number : length words ≡ WORDS → get_or (word_tail words) LINKCOUNT 0 ∷ [] ≡ drop WORDTAIL words
+  unfolding word_tail WORDS
+  word_number e =
       let t = area WORDTAIL WORDNUMBERS words in
       let l : length t ≡ WORDNUMBERS = area_length WORDTAIL WORDNUMBERS words (omega arith) in
-      rw (last_area CLOCK 1 t l) (sym (drop-cons t 0 0 (omega arith)) ∙ last_area WORDTAIL WORDNUMBERS words e)
+      let z : drop 1 t ≡ [] = drop_of_length-le t {i = 1} (omega arith) in
+      let y : t ≡ get_or t 0 0 ∷ [] = drop-cons t 0 0 (omega arith) ∙ ap (◌∷◌ (get_or t 0 0)) z in
+      sym y ∙ last_area WORDTAIL WORDNUMBERS words e
 
   pub words_of_lem : length words ≡ WORDS → words_of (state_in bytes words) ≡ words
   unfolding words_of state_in WORDS ROWS
@@ -109,13 +109,11 @@ module _ (bytes words : List ℕ) where
       device_cut words WORDPAGES HOLDS (omega arith) (omega arith)
       (device_cut words WORDPAGES ERROR (omega arith) (omega arith)
       (device_cut words WORDPAGES LINKED (omega arith) (omega arith)
-      (device_cut words WORDPAGES DELAY (omega arith) (omega arith)
-      (device_cut words WORDPAGES BUSY (omega arith) (omega arith)
-      (word_numbers_of e)))))
+      (word_number e)))
 
   -- every column has its rows
   pub shaped_in : length bytes ≡ BYTES → length words ≡ WORDS → Shaped (state_in bytes words)
-  unfolding state_in BYTES WORDS word_tail
+  unfolding state_in BYTES WORDS
   shaped_in e f =
       record {
         parent = device_rows bytes BYTEPAGES PARENT (omega arith) (omega arith);
@@ -130,10 +128,6 @@ module _ (bytes words : List ℕ) where
         children = device_rows bytes BYTEPAGES CHILDREN (omega arith) (omega arith);
         linked = device_rows words WORDPAGES LINKED (omega arith) (omega arith);
         bytes = let z = tail_length bytes 0 0 (omega arith) in area_length CARRIED 3 (byte_tail bytes) (omega arith);
-        delay = device_rows words WORDPAGES DELAY (omega arith) (omega arith);
-        busy = device_rows words WORDPAGES BUSY (omega arith) (omega arith);
-        auto = device_rows bytes BYTEPAGES AUTO (omega arith) (omega arith);
-        clock = let z = area_length WORDTAIL WORDNUMBERS words (omega arith) in area_length CLOCK 1 (area WORDTAIL WORDNUMBERS words) (omega arith);
       }
 
 -- ---- two memories that hold the same state are the same
@@ -145,7 +139,7 @@ one_memory bytes words bytes₁ words₁ h k e = (
 
 -- ---- every state whose columns have their rows comes from its memory
 -- two joined lists of like parts
-pub halves : (a b : List ℕ) {x y : List ℕ} → length a ≡ length b → a ++ x ≡ b ++ y → (a ≡ b) × (x ≡ y)
+halves : (a b : List ℕ) {x y : List ℕ} → length a ≡ length b → a ++ x ≡ b ++ y → (a ≡ b) × (x ≡ y)
 halves [] [] l e = (refl, e)
 halves [] (q ∷ b) l e = absurd (omega arith)
 halves (p ∷ a) [] l e = absurd (omega arith)
@@ -157,33 +151,30 @@ halves (p ∷ a) (q ∷ b) {x} {y} l e =
 
 pub bytes_long : {s : State} → Shaped s → length (bytes_of s) ≡ BYTES
 unfolding bytes_of byte_numbers BYTES
-bytes_long {s} h = let z = h.bytes in simp (length-append, h.parent, h.ignore, h.status, h.depth, h.children, h.auto, h.consumer, h.supplier, h.flags) (omega arith)
+bytes_long {s} h = let z = h.bytes in simp (length-append, h.parent, h.ignore, h.status, h.depth, h.children, h.consumer, h.supplier, h.flags) (omega arith)
 
 pub words_long : {s : State} → Shaped s → length (words_of s) ≡ WORDS
-unfolding words_of word_numbers WORDS
-words_long {s} h = let z = h.clock in simp (length-append, h.holds, h.error, h.linked, h.delay, h.busy) (omega arith)
+unfolding words_of WORDS
+words_long {s} h = simp (length-append, h.holds, h.error, h.linked) (omega arith)
 
 -- a state from its fields, in the order of the memory
-made : (pa ig st de ch au co su fl nu ho er li dl bu wn : List ℕ) → State
-made pa ig st de ch au co su fl nu ho er li dl bu wn =
+made : List ℕ → List ℕ → List ℕ → List ℕ → List ℕ → List ℕ → List ℕ → List ℕ → List ℕ → List ℕ → List ℕ → List ℕ → List ℕ → State
+made pa ig st de ch co su fl nu ho er li m =
     record {
-      wiring = record { n = get_or nu 0 0; m = get_or wn 0 0; parent = pa; ignore = ig; consumer = co; supplier = su; flags = fl };
+      wiring = record { n = get_or nu 0 0; m = get_or m 0 0; parent = pa; ignore = ig; consumer = co; supplier = su; flags = fl };
       devices = record { status = st; holds = ho; depth = de; error = er; children = ch; linked = li };
       callback = record { kind = get_or nu 1 0; asked = get_or nu 2 0; target = get_or nu 3 0 };
       carry = record { bytes = drop 5 nu; used = get_or nu 4 0 };
-      timers = record { delay = dl; busy = bu; auto = au; clock = drop 1 wn };
     }
 
 abbrev fields : State → State
 fields s =
     let w = s.wiring in
     let d = s.devices in
-    let t = s.timers in
-    made w.parent w.ignore d.status d.depth d.children t.auto w.consumer w.supplier w.flags (byte_numbers s)
-    d.holds d.error d.linked t.delay t.busy (word_numbers s)
+    made w.parent w.ignore d.status d.depth d.children w.consumer w.supplier w.flags (byte_numbers s) d.holds d.error d.linked (w.m ∷ [])
 
 again : (s : State) → fields s ≡ s
-unfolding made byte_numbers word_numbers
+unfolding made byte_numbers
 again s = refl
 
 pub same_state : {s t : State} → Shaped s → Shaped t → bytes_of s ≡ bytes_of t → words_of s ≡ words_of t → s ≡ t
@@ -194,16 +185,13 @@ same_state {s} {t} g h e f =
     let (st, e3) = halves s.devices.status t.devices.status (g.status ∙ sym h.status) e2 in
     let (de, e4) = halves s.devices.depth t.devices.depth (g.depth ∙ sym h.depth) e3 in
     let (ch, e5) = halves s.devices.children t.devices.children (g.children ∙ sym h.children) e4 in
-    let (au, e6) = halves s.timers.auto t.timers.auto (g.auto ∙ sym h.auto) e5 in
-    let (co, e7) = halves s.wiring.consumer t.wiring.consumer (g.consumer ∙ sym h.consumer) e6 in
-    let (su, e8) = halves s.wiring.supplier t.wiring.supplier (g.supplier ∙ sym h.supplier) e7 in
-    let (fl, e9) = halves s.wiring.flags t.wiring.flags (g.flags ∙ sym h.flags) e8 in
+    let (co, e6) = halves s.wiring.consumer t.wiring.consumer (g.consumer ∙ sym h.consumer) e5 in
+    let (su, e7) = halves s.wiring.supplier t.wiring.supplier (g.supplier ∙ sym h.supplier) e6 in
+    let (fl, e8) = halves s.wiring.flags t.wiring.flags (g.flags ∙ sym h.flags) e7 in
     let (ho, f1) = halves s.devices.holds t.devices.holds (g.holds ∙ sym h.holds) f in
     let (er, f2) = halves s.devices.error t.devices.error (g.error ∙ sym h.error) f1 in
     let (li, f3) = halves s.devices.linked t.devices.linked (g.linked ∙ sym h.linked) f2 in
-    let (dl, f4) = halves s.timers.delay t.timers.delay (g.delay ∙ sym h.delay) f3 in
-    let (bu, f5) = halves s.timers.busy t.timers.busy (g.busy ∙ sym h.busy) f4 in
-    sym (again s) ∙ rw (e9, f5, pa, ig, st, de, ch, au, co, su, fl, ho, er, li, dl, bu) (again t)
+    sym (again s) ∙ rw (e8, f3, pa, ig, st, de, ch, co, su, fl, ho, er, li) (again t)
 
 pub state_of_lem : {s : State} → Shaped s → state_in (bytes_of s) (words_of s) ≡ s
 state_of_lem {s} h =
@@ -217,5 +205,5 @@ sound_memory h = state_of_lem (sound_shaped h)
 
 -- the memory of zeros is that of the empty bench
 pub empty_memory : state_in (replicate BYTES 0) (replicate WORDS 0) ≡ empty_state
-unfolding state_in device_col link_col byte_tail word_tail page area BYTES WORDS ROWS LINKS empty_state no_timers at_rest
+unfolding state_in device_col link_col byte_tail word_tail page area BYTES WORDS ROWS LINKS empty_state at_rest
 empty_memory = refl

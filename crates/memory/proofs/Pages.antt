@@ -12,7 +12,7 @@ use borrow.Author.Tests.{eqb-true, eqb-false}
 use Rattle.model.specs.Limits.{ROWS, LINKS}
 use Rattle.model.specs.Logic.{if◌then◌else◌}
 use Rattle.model.proofs.Basics.{by_if}
-use Rattle.memory.specs.Layout.{BYTES, WORDS, CARRIED, LINKCOUNT, CLOCK, LINKSAT, LINKPAGES, WORDTAIL, BYTETAIL, BYTENUMBERS, WORDNUMBERS}
+use Rattle.memory.specs.Layout.{BYTES, WORDS, CARRIED, LINKCOUNT, LINKSAT, LINKPAGES, WORDTAIL, BYTETAIL, BYTENUMBERS, WORDNUMBERS}
 use Rattle.memory.specs.Layout.{area, page, device_col, byte_col, word_col, link_col, byte_tail, word_tail}
 
 -- ---- areas
@@ -183,29 +183,15 @@ module _ (cells : List ℕ) (i v : ℕ) where
 
 -- the link count
 module _ (cells : List ℕ) (v : ℕ) where
-  word_tail_store : (i : ℕ) → i < WORDNUMBERS → word_tail (set cells (WORDTAIL + i) v) ≡ set (word_tail cells) i v
-  unfolding word_tail
-  word_tail_store i l = area_same WORDTAIL WORDNUMBERS cells i v l
-
   pub word_number_store : WORDS ≤ length cells → get_or (word_tail (set cells (WORDTAIL + LINKCOUNT) v)) LINKCOUNT 0 ≡ v
   unfolding word_tail WORDS
   word_number_store long =
       let z = area_length WORDTAIL WORDNUMBERS cells (omega arith) in
-      rw (word_tail_store LINKCOUNT (omega arith)) (get_or-set_same (area WORDTAIL WORDNUMBERS cells) LINKCOUNT v 0 (omega arith))
+      rw (area_same WORDTAIL WORDNUMBERS cells LINKCOUNT v (omega arith)) (get_or-set_same (area WORDTAIL WORDNUMBERS cells) LINKCOUNT v 0 (omega arith))
 
-  -- the clock stays where the link count changes, and the other way round
-  pub clock_stays : area CLOCK 1 (word_tail (set cells (WORDTAIL + LINKCOUNT) v)) ≡ area CLOCK 1 (word_tail cells)
-  clock_stays = rw (word_tail_store LINKCOUNT (omega arith)) (area_after CLOCK 1 (word_tail cells) LINKCOUNT v (omega arith))
-
-  pub clock_store : area CLOCK 1 (word_tail (set cells (WORDTAIL + CLOCK) v)) ≡ set (area CLOCK 1 (word_tail cells)) 0 v
-  clock_store = rw (word_tail_store CLOCK (omega arith)) (area_same CLOCK 1 (word_tail cells) 0 v (omega arith))
-
-  pub word_number_stays : get_or (word_tail (set cells (WORDTAIL + CLOCK) v)) LINKCOUNT 0 ≡ get_or (word_tail cells) LINKCOUNT 0
-  word_number_stays = rw (word_tail_store CLOCK (omega arith)) (get_or-set_other (word_tail cells) CLOCK LINKCOUNT v 0 (λ e. omega arith))
-
-  pub word_tail_cols : (i j : ℕ) → word_col j (set cells (WORDTAIL + i) v) ≡ word_col j cells
+  pub word_tail_cols : (j : ℕ) → word_col j (set cells (WORDTAIL + LINKCOUNT) v) ≡ word_col j cells
   unfolding device_col
-  word_tail_cols i j = ap (page ROWS j) (take-set-le WORDTAIL cells (WORDTAIL + i) v (omega arith))
+  word_tail_cols j = ap (page ROWS j) (take-set-le WORDTAIL cells (WORDTAIL + LINKCOUNT) v (omega arith))
 
 -- ---- reading
 pub device_read : (pages k : ℕ) (cells : List ℕ) (p : ℕ) → p < ROWS → k < pages → get_or (device_col pages k cells) p 0 ≡ get_or cells (ROWS * k + p) 0

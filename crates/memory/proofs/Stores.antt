@@ -9,15 +9,15 @@ use lib.Dec.{eqb}
 use borrow.Author.Tests.{eqb-true}
 use Rattle.model.specs.Limits.{ROWS, LINKS}
 use Rattle.model.specs.Logic.{if◌then◌else◌}
-use Rattle.model.specs.State.{with_depth, with_holds, with_error, with_ignore, with_callback, with_carry, with_delay, with_busy, with_auto, with_clock}
+use Rattle.model.specs.State.{with_depth, with_holds, with_error, with_ignore, with_callback, with_carry}
 use Rattle.model.proofs.Basics.{by_if}
-use Rattle.memory.specs.Layout.{PARENT, IGNORE, STATUS, DEPTH, CHILDREN, AUTO, BYTEPAGES, CONSUMER, SUPPLIER, FLAGS, LINKPAGES, HOLDS, ERROR, LINKED, DELAY, BUSY, WORDPAGES}
-use Rattle.memory.specs.Layout.{KIND, ASKED, TARGET, USED, CARRIED, COUNT, LINKCOUNT, CLOCK, LINKSAT, BYTETAIL, BYTENUMBERS, WORDTAIL, WORDNUMBERS, BYTES, WORDS}
+use Rattle.memory.specs.Layout.{PARENT, IGNORE, STATUS, DEPTH, CHILDREN, BYTEPAGES, CONSUMER, SUPPLIER, FLAGS, LINKPAGES, HOLDS, ERROR, LINKED, WORDPAGES}
+use Rattle.memory.specs.Layout.{KIND, ASKED, TARGET, USED, CARRIED, COUNT, LINKCOUNT, LINKSAT, BYTETAIL, BYTENUMBERS, WORDTAIL, WORDNUMBERS, BYTES, WORDS}
 use Rattle.memory.specs.Layout.{area, byte_col, link_col, word_col, byte_tail, word_tail, state_in, BytesBecome, WordsBecome}
 use Rattle.memory.specs.Stored.{stored, Stored, StoredLink, StoredWord}
 use Rattle.memory.specs.Cells.{with_status_cell, with_children, with_linked, with_count, with_links, with_parent, with_consumer, with_supplier, with_flags}
 use Rattle.memory.proofs.Pages.{device_store, device_rest, link_store, link_devices, link_tail, tail_cols, tail_links, number_store}
-use Rattle.memory.proofs.Pages.{carried_stays, carried_store, carried_long, three_cells, three_set, word_number_store, word_number_stays, clock_stays, clock_store, word_tail_cols}
+use Rattle.memory.proofs.Pages.{carried_stays, carried_store, carried_long, three_cells, three_set, word_number_store, word_tail_cols}
 
 -- ---- the store of a cell
 module _ (page p v : ℕ) (cells : List ℕ) where
@@ -74,10 +74,6 @@ module _ {p v : ℕ} {bytes₀ bytes : List ℕ} where
   unfolding state_in if◌then◌else◌
   put_children h words = simp (h.columns, h.links, h.numbers)
 
-  pub put_auto : Stored AUTO p v bytes₀ bytes → BytesBecome (λ s. with_auto s p v) bytes₀ bytes
-  unfolding state_in if◌then◌else◌
-  put_auto h words = simp (h.columns, h.links, h.numbers)
-
   pub put_consumer : StoredLink CONSUMER p v bytes₀ bytes → BytesBecome (λ s. with_consumer s p v) bytes₀ bytes
   unfolding state_in if◌then◌else◌
   put_consumer h words = simp (h.columns, h.links, h.numbers)
@@ -103,23 +99,10 @@ module _ {p v : ℕ} {words₀ words : List ℕ} where
   unfolding state_in if◌then◌else◌
   put_linked h bytes = simp (h.columns, h.numbers)
 
-  pub put_delay : StoredWord DELAY p v words₀ words → WordsBecome (λ s. with_delay s p v) words₀ words
-  unfolding state_in if◌then◌else◌
-  put_delay h bytes = simp (h.columns, h.numbers)
-
-  pub put_busy : StoredWord BUSY p v words₀ words → WordsBecome (λ s. with_busy s p v) words₀ words
-  unfolding state_in if◌then◌else◌
-  put_busy h bytes = simp (h.columns, h.numbers)
-
 -- ---- a number stored is a state changed, where the array has its cells
 pub put_links : (bytes words : List ℕ) (m : ℕ) → WORDS ≤ length words → state_in bytes (set words (WORDTAIL + LINKCOUNT) m) ≡ with_links (state_in bytes words) m
 unfolding state_in
-put_links bytes words m long = simp (word_number_store words m long, clock_stays words m, word_tail_cols words m LINKCOUNT)
-
--- the clock is a column of one row, which a short array does not have
-pub put_clock : (bytes words : List ℕ) (v : ℕ) → state_in bytes (set words (WORDTAIL + CLOCK) v) ≡ with_clock (state_in bytes words) v
-unfolding state_in
-put_clock bytes words v = simp (word_number_stays words v, clock_store words v, word_tail_cols words v CLOCK)
+put_links bytes words m long = simp (word_number_store words m long, word_tail_cols words m)
 
 pub put_count : (bytes words : List ℕ) (n : ℕ) → BYTES ≤ length bytes → state_in (set bytes (BYTETAIL + COUNT) n) words ≡ with_count (state_in bytes words) n
 unfolding state_in if◌then◌else◌

@@ -5,7 +5,7 @@ use Rattle.model.specs.State.{State, Devices}
 
 -- ---- the devices
 abbrev on : State → Devices → State
-on s d = record { wiring = s.wiring; devices = d; callback = s.callback; carry = s.carry; timers = s.timers }
+on s d = record { wiring = s.wiring; devices = d; callback = s.callback; carry = s.carry }
 
 abbrev pub with_status_cell : State → ℕ → ℕ → State
 with_status_cell s p v = let d = s.devices in on s (record { status = set d.status p v; holds = d.holds; depth = d.depth; error = d.error; children = d.children; linked = d.linked })
@@ -22,7 +22,7 @@ with_linked s p v = with_linked_column s (set s.devices.linked p v)
 
 -- ---- the wiring
 abbrev wired : State → Wiring → State
-wired s w = record { wiring = w; devices = s.devices; callback = s.callback; carry = s.carry; timers = s.timers }
+wired s w = record { wiring = w; devices = s.devices; callback = s.callback; carry = s.carry }
 
 -- the device count and the link count
 abbrev pub with_count : State → ℕ → State

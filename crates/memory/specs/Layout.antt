@@ -1,7 +1,7 @@
 -- Where the state stands in two arrays of cells, bytes and words. First a page of ROWS cells for each column of the devices, then (bytes)
 -- a page of LINKS cells for each column of the links, then a cell for each number of the whole bench. No cell is spare.
 -- Assumes nothing.
-use Rattle.std.specs.Prelude.{◌≡◌, List, ◌∷◌, ◌++◌, ℕ, ◌+◌, ◌*◌, ◌<◌, ◌≤◌, length, get_or, take, drop}
+use Rattle.std.specs.Prelude.{◌≡◌, List, [], ◌∷◌, ◌++◌, ℕ, ◌+◌, ◌*◌, ◌<◌, ◌≤◌, length, get_or, take, drop}
 use Rattle.model.specs.Limits.{ROWS, LINKS}
 use Rattle.model.specs.State.{State}
 
@@ -21,11 +21,8 @@ DEPTH = 3
 abbrev pub CHILDREN : ℕ
 CHILDREN = 4
 
-abbrev pub AUTO : ℕ
-AUTO = 5
-
 abbrev pub BYTEPAGES : ℕ
-BYTEPAGES = 6
+BYTEPAGES = 5
 
 abbrev pub CONSUMER : ℕ
 CONSUMER = 0
@@ -70,23 +67,14 @@ ERROR = 1
 abbrev pub LINKED : ℕ
 LINKED = 2
 
-abbrev pub DELAY : ℕ
-DELAY = 3
-
-abbrev pub BUSY : ℕ
-BUSY = 4
-
 abbrev pub WORDPAGES : ℕ
-WORDPAGES = 5
+WORDPAGES = 3
 
 abbrev pub LINKCOUNT : ℕ
 LINKCOUNT = 0
 
-abbrev pub CLOCK : ℕ
-CLOCK = 1
-
 abbrev pub WORDNUMBERS : ℕ
-WORDNUMBERS = 2
+WORDNUMBERS = 1
 
 -- ---- where the numbers start, and how many cells there are
 abbrev pub LINKSAT : ℕ
@@ -157,7 +145,6 @@ state_in bytes words =
           };
       callback = record { kind = get_or (byte_tail bytes) KIND 0; asked = get_or (byte_tail bytes) ASKED 0; target = get_or (byte_tail bytes) TARGET 0 };
       carry = record { bytes = area CARRIED 3 (byte_tail bytes); used = get_or (byte_tail bytes) USED 0 };
-      timers = record { delay = word_col DELAY words; busy = word_col BUSY words; auto = byte_col AUTO bytes; clock = area CLOCK 1 (word_tail words) };
     }
 
 -- ---- and back: the one memory of a state
@@ -169,14 +156,10 @@ bytes_of s =
     s.wiring.parent
     ++ (s.wiring.ignore
     ++ (s.devices.status
-    ++ (s.devices.depth
-    ++ (s.devices.children ++ (s.timers.auto ++ (s.wiring.consumer ++ (s.wiring.supplier ++ (s.wiring.flags ++ byte_numbers s))))))))
-
-unfoldable pub word_numbers : State → List ℕ
-word_numbers s = s.wiring.m ∷ s.timers.clock
+    ++ (s.devices.depth ++ (s.devices.children ++ (s.wiring.consumer ++ (s.wiring.supplier ++ (s.wiring.flags ++ byte_numbers s)))))))
 
 unfoldable pub words_of : State → List ℕ
-words_of s = s.devices.holds ++ (s.devices.error ++ (s.devices.linked ++ (s.timers.delay ++ (s.timers.busy ++ word_numbers s))))
+words_of s = s.devices.holds ++ (s.devices.error ++ (s.devices.linked ++ (s.wiring.m ∷ [])))
 
 -- ---- a memory and its state determine each other, as no cell is spare: proofs/Inverse.antt
 -- the arrays have all their cells

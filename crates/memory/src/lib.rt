@@ -2,8 +2,8 @@
 // and changes the state through these functions, and through those of `memory_rows`, `memory_links` and `memory_stores`, which know the
 // numbers of the pages. Outside the pages and the rows a reader answers 0 and a setter changes nothing.
 ghost use Rattle.std.specs.Prelude.{◌≡◌, List, ℕ, ◌≤◌, get_or, length};
-ghost use Rattle.model.specs.State.{clock_of, with_callback, with_carry, with_clock};
-ghost use Rattle.memory.specs.Layout.{BYTES, byte_col, link_col, word_col, state_in, WordsBecome, WholeBytesBecome, WholeWordsBecome};
+ghost use Rattle.model.specs.State.{with_callback, with_carry};
+ghost use Rattle.memory.specs.Layout.{BYTES, byte_col, link_col, word_col, state_in, WholeBytesBecome, WholeWordsBecome};
 ghost use Rattle.memory.specs.Cells.{with_count, with_links};
 ghost use Rattle.memory.specs.Stored.{Stored, StoredLink, StoredWord};
 
@@ -20,9 +20,7 @@ pub const DEPTH: usize = 3;
 
 pub const CHILDREN: usize = 4;
 
-pub const AUTO: usize = 5;
-
-const BYTEPAGES: usize = 6;
+const BYTEPAGES: usize = 5;
 
 // Pages of bytes with a row for each link.
 pub const CONSUMER: usize = 0;
@@ -40,15 +38,11 @@ pub const ERROR: usize = 1;
 
 pub const LINKED: usize = 2;
 
-pub const DELAY: usize = 3;
-
-pub const BUSY: usize = 4;
-
-const WORDPAGES: usize = 5;
+const WORDPAGES: usize = 3;
 
 // After the device pages of the bytes stand the link pages, then the numbers of the whole bench: the device count, the open callback, how
 // many bytes are carried, and those.
-pub const LINKSAT: usize = ROWS * BYTEPAGES;
+const LINKSAT: usize = ROWS * BYTEPAGES;
 
 const COUNT: usize = LINKSAT + LINKS * LINKPAGES;
 
@@ -68,12 +62,10 @@ const CARRIED3: usize = COUNT + 7;
 
 pub const BYTES: usize = COUNT + 8;
 
-// After the device pages of the words stand the link count and the clock.
-pub const LINKCOUNT: usize = ROWS * WORDPAGES;
+// After the device pages of the words stands the link count.
+const LINKCOUNT: usize = ROWS * WORDPAGES;
 
-const CLOCK: usize = LINKCOUNT + 1;
-
-pub const WORDS: usize = LINKCOUNT + 2;
+pub const WORDS: usize = LINKCOUNT + 1;
 
 // ---- a row of a page
 
@@ -206,12 +198,6 @@ pub fn links<'a>(words: &'a [u32; WORDS]) -> u32
     words[LINKCOUNT]
 }
 
-pub fn clock<'a>(words: &'a [u32; WORDS]) -> u32
-    ensures { (bytes : List ℕ) → result ≡ clock_of (state_in bytes words.now) }
-{
-    words[CLOCK]
-}
-
 pub fn set_devices(bytes: &mut [u8; BYTES], n: u8)
     ensures { WholeBytesBecome (λ s. with_count s n) bytes.old bytes.new }
 {
@@ -239,10 +225,4 @@ pub fn set_links(words: &mut [u32; WORDS], m: u32)
     ensures { WholeWordsBecome (λ s. with_links s m) words.old words.new }
 {
     words[LINKCOUNT] = m;
-}
-
-pub fn set_clock(words: &mut [u32; WORDS], v: u32)
-    ensures { WordsBecome (λ s. with_clock s v) words.old words.new }
-{
-    words[CLOCK] = v;
 }

@@ -1,15 +1,15 @@
--- P1 to P14 as a single claim over a list, and with them the slips of document 01 request Three's codes and request Six's times, worked out from the
--- day's table. Assumes nothing.
+-- P1 to P14 as a single claim over a list, and with them the slips of document 01 and request Three's codes, worked out from the day's
+-- table. Assumes nothing.
 use mathlib.Core.Path.{◌≡◌, refl}
 use mathlib.Core.List.{List, [], ◌∷◌, ◌++◌, flat_map}
 use Rattle.model.specs.Limits.{DEVICES, LINKS, ROWS}
 use Rattle.model.specs.Logic.{if◌then◌else◌, ◌and◌, ◌or◌, any, first, count, tally, column}
 use Rattle.model.specs.Table.{mark_good, version_good, limits_good, length_good, parent_good, ends_good, before, device_good, link_fits, ascends, link_good, bad_device, bad_link, entries_answer, table_answer, cell, padded, wiring_in}
-use Rattle.model.specs.State.{is_child, is_live, child_count, link_count, children_of, linked_of, no_timers, at_rest, loaded, load_of}
+use Rattle.model.specs.State.{is_child, is_live, child_count, link_count, children_of, linked_of, at_rest, loaded, load_of}
 use Rattle.model.specs.WakeSet.{marks_child, marks_consumer, belongs, sweep, wake_marks, in_wake, lowest}
 use Rattle.model.specs.Records.{kinds, allowed, fault}
-use Rattle.model.specs.Requests.{enable, disable, get, put, uses_auto, kept_on, suspend_test, ask_suspend, idle, suspend, barred, others_barred, ask_resume, wake, get_wake, idle_unused, put_idle, running, parent_down, supplier_down, set_active, needed, set_suspended, ignore_children, tick, mark_busy, set_delay, use_autosuspend, expiry, too_early, autosuspend}
-use Rattle.model.specs.Steps.{idle_result, suspend_result, go_on, resume_result, result, time_request, request, result_step, busy, record_step, byte_step, run, replies_in}
+use Rattle.model.specs.Requests.{enable, disable, get, put, suspend_test, ask_suspend, idle, suspend, barred, others_barred, ask_resume, wake, get_wake, idle_unused, put_idle, running, parent_down, supplier_down, set_active, needed, set_suspended, ignore_children}
+use Rattle.model.specs.Steps.{idle_result, suspend_result, go_on, resume_result, result, request, result_step, busy, record_step, byte_step, run, replies_in}
 use Rattle.model.specs.Day.{day_table, Row, row, day, Claim, claims, given, expected, Hold}
 
 pub day_loads : (load_of day_table).answer ≡ record { number = 0; index = 0 }
@@ -103,60 +103,14 @@ codes =
     ∷ [])
     ∷ []
 
--- ---- request Six
-pub times : List Claim
-times =
-    from (
-    -- the reference is enabled and woken
-    row 0x01 0x01 0x00 0x00 0x00 0x01 0x00 0x00
-    ∷ row 0x09 0x01 0x00 0x00 0x02 0x01 0x00 0x00
-    ∷ row 0x0d 0x01 0x00 0x00 0x00 0x01 0x00 0x00
-    -- delay 1,001, in use; busy at 999: the expiry is 2,000, a whole 1,000 already
-    ∷ row 0x10 0x01 0xe9 0x03 0x00 0x01 0x00 0x00
-    ∷ row 0x11 0x01 0x01 0x00 0x00 0x01 0x00 0x00
-    ∷ row 0x0e 0x00 0xe7 0x03 0x00 0x00 0x00 0x00
-    ∷ row 0x0f 0x01 0x00 0x00 0x00 0x01 0x00 0x00
-    -- one millisecond before the expiry -11, though a plain suspend would begin; at the expiry it is asked to suspend
-    ∷ row 0x0e 0x00 0xe8 0x03 0x00 0x00 0x00 0x00
-    ∷ row 0x12 0x01 0x00 0x00 0x00 0x01 0xf5 0xff
-    ∷ row 0x0e 0x00 0x01 0x00 0x00 0x00 0x00 0x00
-    ∷ row 0x12 0x01 0x00 0x00 0x01 0x01 0x00 0x00
-    -- while the callback is open a tick is answered, the other kinds are not
-    ∷ row 0x0e 0x00 0x05 0x00 0x00 0x00 0x00 0x00
-    ∷ row 0x0f 0x01 0x00 0x00 0x00 0x01 0x8d 0xff
-    ∷ row 0x12 0x01 0x00 0x00 0x00 0x01 0x8d 0xff
-    ∷ row 0x0d 0x01 0xf0 0xff 0x00 0x01 0xf0 0xff
-    -- busy at 2,005 with delay 999: the expiry is 3,004, not rounded
-    ∷ row 0x0f 0x01 0x00 0x00 0x00 0x01 0x00 0x00
-    ∷ row 0x10 0x01 0xe7 0x03 0x00 0x01 0x00 0x00
-    ∷ row 0x0e 0x00 0xe6 0x03 0x00 0x00 0x00 0x00
-    ∷ row 0x12 0x01 0x00 0x00 0x00 0x01 0xf5 0xff
-    -- delay -1 ends the suspend test in -11, but not with the flag off
-    ∷ row 0x10 0x01 0xff 0xff 0x00 0x01 0x00 0x00
-    ∷ row 0x08 0x01 0x00 0x00 0x00 0x01 0xf5 0xff
-    ∷ row 0x07 0x01 0x00 0x00 0x00 0x01 0xf5 0xff
-    ∷ row 0x11 0x01 0x00 0x00 0x00 0x01 0x00 0x00
-    ∷ row 0x12 0x01 0x00 0x00 0x01 0x01 0x00 0x00
-    ∷ row 0x0d 0x01 0x00 0x00 0x00 0x01 0x00 0x00
-    -- suspended: 1; and with the flag on -11 again
-    ∷ row 0x12 0x01 0x00 0x00 0x00 0x01 0x01 0x00
-    ∷ row 0x11 0x01 0x01 0x00 0x00 0x01 0x00 0x00
-    ∷ row 0x12 0x01 0x00 0x00 0x00 0x01 0xf5 0xff
-    -- a tick for another device: 12, before 13; a negative one: 13; no kind 19: 11
-    ∷ row 0x0e 0x01 0xff 0xff 0x04 0x01 0x0c 0x00
-    ∷ row 0x0e 0x00 0xff 0xff 0x04 0x00 0x0d 0x00
-    ∷ row 0x13 0x00 0x00 0x00 0x04 0x00 0x0b 0x00
-    ∷ [])
-    ∷ []
-
--- ---- P1 to P14, the slips, requests Three and Six
-pub worked : Hold (claims ++ slips ++ codes ++ times)
-unfolding flat_map given expected claims slips codes times day_table day
+-- ---- P1 to P14, the slips, and request Three
+pub worked : Hold (claims ++ slips ++ codes)
+unfolding flat_map given expected claims slips codes day_table day
     load_of table_answer mark_good version_good limits_good length_good parent_good ends_good before device_good link_fits ascends link_good
-    bad_device bad_link entries_answer cell padded wiring_in no_timers at_rest loaded DEVICES LINKS ROWS
+    bad_device bad_link entries_answer cell padded wiring_in at_rest loaded DEVICES LINKS ROWS
     if◌then◌else◌ ◌and◌ ◌or◌ any first count tally column
     is_child is_live child_count link_count children_of linked_of marks_child marks_consumer belongs sweep wake_marks in_wake lowest
-    kinds allowed fault enable disable get put uses_auto kept_on suspend_test ask_suspend idle suspend barred others_barred ask_resume wake get_wake idle_unused put_idle
-    running parent_down supplier_down set_active needed set_suspended ignore_children tick mark_busy set_delay use_autosuspend expiry too_early autosuspend
-    idle_result suspend_result go_on resume_result result time_request request result_step busy record_step byte_step run replies_in
+    kinds allowed fault enable disable get put suspend_test ask_suspend idle suspend barred others_barred ask_resume wake get_wake idle_unused put_idle
+    running parent_down supplier_down set_active needed set_suspended ignore_children
+    idle_result suspend_result go_on resume_result result request result_step busy record_step byte_step run replies_in
 worked = refl

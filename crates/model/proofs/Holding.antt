@@ -11,7 +11,7 @@ use Rattle.model.specs.Records.{Done}
 use Rattle.model.specs.Requests.{enable, disable, get, put}
 use Rattle.model.specs.Sound.{Sound}
 use Rattle.model.proofs.Basics.{by_if}
-use Rattle.model.proofs.Keeping.{kept_holds, kept_depth, none_open_lem, beside, quiet}
+use Rattle.model.proofs.Keeping.{kept_holds, kept_depth, none_open_lem, quiet}
 
 -- the state that a record leads to is sound
 abbrev pub Good : Done → Type 0
@@ -20,17 +20,17 @@ Good d = Sound d.state
 module _ {s : State} (h : Sound s) (o : s.callback.kind ≡ 0) (p : ℕ) (l : p < s.wiring.n) where
   pub enable_good : Good (enable s p)
   unfolding enable
-  enable_good = by_if Good _ _ _ (λ e. h) (λ e. quiet _ (kept_depth s h.kept p _ l (let z = h.kept.depths.used p l in omega arith)) (beside h) (none_open_lem h.callback o))
+  enable_good = by_if Good _ _ _ (λ e. h) (λ e. quiet _ (kept_depth s h.kept p _ l (let z = h.kept.depths.used p l in omega arith)) h.carried (none_open_lem h.callback o))
 
   pub disable_good : Good (disable s p)
   unfolding disable
-  disable_good = by_if Good _ _ _ (λ e. h) (λ e. quiet _ (kept_depth s h.kept p _ l (let z = h.kept.depths.used p l in omega (arith, eqb-false))) (beside h) (none_open_lem h.callback o))
+  disable_good = by_if Good _ _ _ (λ e. h) (λ e. quiet _ (kept_depth s h.kept p _ l (let z = h.kept.depths.used p l in omega (arith, eqb-false))) h.carried (none_open_lem h.callback o))
 
   pub more_held : leb MAXHOLDS (holds_at s p) ≡ false → Sound (with_holds s p (holds_at s p + 1))
-  more_held e = quiet _ (kept_holds s h.kept p _ l (let z = leb-false MAXHOLDS (holds_at s p) e in omega arith)) (beside h) (none_open_lem h.callback o)
+  more_held e = quiet _ (kept_holds s h.kept p _ l (let z = leb-false MAXHOLDS (holds_at s p) e in omega arith)) h.carried (none_open_lem h.callback o)
 
   pub less_held : Sound (with_holds s p (holds_at s p - 1))
-  less_held = quiet _ (kept_holds s h.kept p _ l (let z = h.kept.holds.used p l in omega arith)) (beside h) (none_open_lem h.callback o)
+  less_held = quiet _ (kept_holds s h.kept p _ l (let z = h.kept.holds.used p l in omega arith)) h.carried (none_open_lem h.callback o)
 
   pub get_good : Good (get s p)
   unfolding get

@@ -7,10 +7,10 @@ use native.Mathlib.Decide.{dec_lt}
 use lib.ListN.{length, get_or, set}
 use lib.Seq.{get_or-set_other}
 use Rattle.model.specs.Limits.{ROWS, MAXHOLDS, MAXDEPTH, MAXERROR}
-use Rattle.model.specs.State.{State, Carry, RESUMING, ACTIVE, SUSPENDING, status_at, linked_at, children_at, is_child, is_live, child_count, link_count, children_of, linked_of, with_ignore, with_holds, with_depth, with_error, with_status, with_carry, with_timers, closed}
+use Rattle.model.specs.State.{State, RESUMING, ACTIVE, SUSPENDING, status_at, linked_at, children_at, is_child, is_live, child_count, link_count, children_of, linked_of, with_ignore, with_holds, with_depth, with_error, with_status, with_carry, closed}
 use Rattle.model.specs.WakeSet.{Needs, child, link}
-use Rattle.model.specs.Requests.{kept_on, uses_auto, suspend_test}
-use Rattle.model.specs.Sound.{Column, Supply, Kept, Carried, Timed, Steady, OthersSteady, NoneOpen, CallbackRules, none_open, suspend_open, resume_open, idle_open, Sound}
+use Rattle.model.specs.Requests.{suspend_test}
+use Rattle.model.specs.Sound.{Column, Supply, Kept, Carried, Steady, OthersSteady, NoneOpen, CallbackRules, none_open, suspend_open, resume_open, idle_open, Sound}
 use Rattle.model.proofs.Basics.{at_set, column_set, few_rows}
 use Rattle.model.proofs.Counting.{child_counted, link_counted}
 use Rattle.model.proofs.WakeSet.{apart}
@@ -159,16 +159,13 @@ module _ (s : State) (k : KeptIn s) where
           omega arith
 
 -- ---- the callback and the carried bytes
--- the callback's rules read neither the carried bytes nor the clock
-abbrev pub unread : State → Carry → List ℕ → State
-unread s c clock = let t = s.timers in with_timers (with_carry s c.bytes c.used) (record { delay = t.delay; busy = t.busy; auto = t.auto; clock = clock })
-
-pub callback_unread : {s : State} (c : Carry) (clock : List ℕ) → CallbackRules s → CallbackRules (unread s c clock)
-unfolding suspend_test kept_on uses_auto
-callback_unread b u (none_open o) = none_open o
-callback_unread b u (suspend_open o) = suspend_open (record { kind = o.kind; asked = o.asked; target = o.target; status = o.status; steady = o.steady; passes = o.passes })
-callback_unread b u (resume_open o) = resume_open (record { kind = o.kind; target = o.target; status = o.status; steady = o.steady; asked = o.asked; clear = o.clear })
-callback_unread b u (idle_open o) = idle_open (record { kind = o.kind; asked = o.asked; target = o.target; status = o.status; steady = o.steady; passes = o.passes })
+-- the callback's rules do not read the carried bytes
+pub callback_carry : {s : State} (bytes : List ℕ) (used : ℕ) → CallbackRules s → CallbackRules (with_carry s bytes used)
+unfolding suspend_test
+callback_carry b u (none_open o) = none_open o
+callback_carry b u (suspend_open o) = suspend_open (record { kind = o.kind; asked = o.asked; target = o.target; status = o.status; steady = o.steady; passes = o.passes })
+callback_carry b u (resume_open o) = resume_open (record { kind = o.kind; target = o.target; status = o.status; steady = o.steady; asked = o.asked; clear = o.clear })
+callback_carry b u (idle_open o) = idle_open (record { kind = o.kind; asked = o.asked; target = o.target; status = o.status; steady = o.steady; passes = o.passes })
 
 pub none_open_lem : {s : State} → CallbackRules s → s.callback.kind ≡ 0 → NoneOpen s.callback s.devices.status
 none_open_lem (none_open o) e = o
@@ -176,16 +173,9 @@ none_open_lem (suspend_open o) e = let z = o.kind in absurd (omega arith)
 none_open_lem (resume_open o) e = let z = o.kind in absurd (omega arith)
 none_open_lem (idle_open o) e = let z = o.kind in absurd (omega arith)
 
--- the parts of soundness that are about neither wiring, devices nor callback
-abbrev pub Beside : State → Type 0
-Beside s = Timed s.wiring.n s.timers × Carried s.carry
-
-pub beside : {s : State} → Sound s → Beside s
-beside h = (h.timed, h.carried)
-
-pub quiet : (s : State) → KeptIn s → Beside s → NoneOpen s.callback s.devices.status → Sound s
-quiet s k b o = record { kept = k; timed = b.0; carried = b.1; callback = none_open o }
+pub quiet : (s : State) → KeptIn s → Carried s.carry → NoneOpen s.callback s.devices.status → Sound s
+quiet s k c o = record { kept = k; carried = c; callback = none_open o }
 
 -- the callback closed, with no device in change
-pub closing : (s : State) → KeptIn s → Beside s → ((q : ℕ) → Steady (status_at s q)) → Sound (closed s)
+pub closing : (s : State) → KeptIn s → Carried s.carry → ((q : ℕ) → Steady (status_at s q)) → Sound (closed s)
 closing s k c st = quiet (closed s) k c (record { kind = refl; asked = refl; target = refl; steady = st })

@@ -8,7 +8,6 @@ pub mod Holding
 pub mod Suspending
 pub mod Resuming
 pub mod Setting
-pub mod Timing
 pub mod Values
 pub mod Steps
 pub mod Records

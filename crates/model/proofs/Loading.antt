@@ -10,10 +10,10 @@ use native.Mathlib.Nat.{eq-or-lt_of_le}
 use native.Mathlib.Numerals.{add-one}
 use lib.ListN.{get_or, replicate, length-replicate, get_or-eq_default}
 use borrow.Author.Tests.{ltb-false, eq-eqb, ne_eqb, lt-ltb, le-ltb, not-false}
-use Rattle.model.specs.Limits.{DEVICES, LINKS, ROWS, NONE, MAXDELAY, MAXCLOCK}
+use Rattle.model.specs.Limits.{DEVICES, LINKS, ROWS, NONE}
 use Rattle.model.specs.Logic.{if◌then◌else◌, ◌and◌, ◌or◌, first}
 use Rattle.model.specs.Table.{Wiring, TableAnswer, devices_in, links_in, device_byte, link_byte, limits_good, parent_good, ends_good, before, device_good, link_fits, ascends, link_good, bad_device, bad_link, entries_answer, table_answer, cell, padded, wiring_in}
-use Rattle.model.specs.State.{holds_at, is_child, is_live, child_count, link_count, children_of, linked_of, no_timers, at_rest, loaded, empty_state, load_of}
+use Rattle.model.specs.State.{holds_at, is_child, is_live, child_count, link_count, children_of, linked_of, at_rest, loaded, empty_state, load_of}
 use Rattle.model.specs.Sound.{Column, Ordered, TableRules, none_open, Sound}
 use Rattle.model.specs.SoundTest.{table_test, kept_test, sound_test}
 use Rattle.model.proofs.Basics.{by_if, first_least, few_rows, few_devices_lem}
@@ -46,7 +46,7 @@ zero_column rows n most = record { long = length-replicate rows 0; used = λ p l
 
 -- ---- a state at rest, over any table that keeps the rules
 loaded_sound : (w : Wiring) → TableRules w → Sound (loaded w)
-unfolding loaded no_timers at_rest children_of linked_of child_count link_count is_child is_live ◌and◌
+unfolding loaded at_rest children_of linked_of child_count link_count is_child is_live ◌and◌
 loaded_sound w t =
     record {
       kept =
@@ -60,7 +60,6 @@ loaded_sound w t =
             linked = sym (column_zero _ ROWS (λ q. tally_none _ _ w.m q (λ k. rw (zeros ROWS (get_or w.consumer k 0)))));
             supply = record { rests = λ p q h d. let z = zeros ROWS p in absurd (omega arith) };
           };
-      timed = record { delays = zero_column ROWS w.n MAXDELAY; busies = zero_column ROWS w.n MAXCLOCK; autos = zero_column ROWS w.n 1; clock = zero_column 1 1 MAXCLOCK };
       carried = nothing_carried;
       callback = none_open (record { kind = refl; asked = refl; target = refl; steady = λ p. let z = zeros ROWS p in omega arith });
     }

@@ -12,14 +12,13 @@ use Rattle.model.specs.Steps.{result, record_step}
 use Rattle.model.specs.Sound.{CallbackRules, none_open, suspend_open, resume_open, idle_open, Sound}
 use Rattle.model.proofs.Basics.{by_if}
 use Rattle.model.proofs.Steps.{Kinds, by_kind, by_record}
-use Rattle.model.proofs.Values.{flag_low, auto_low, delay_low, error_small}
+use Rattle.model.proofs.Values.{flag_low, error_small}
 use Rattle.model.proofs.Holding.{Good, more_held, less_held, enable_good, disable_good, get_good, put_good}
 use Rattle.model.proofs.Suspending.{idle_good, suspend_good, idle_result_good, suspend_result_good}
 use Rattle.model.proofs.Resuming.{wake_good, resume_result_good}
 use Rattle.model.proofs.Setting.{set_active_good, set_suspended_good, ignore_children_good}
-use Rattle.model.proofs.Timing.{tick_good, mark_busy_good, set_delay_good, use_autosuspend_good, autosuspend_good}
 
--- ---- the kinds but 13
+-- ---- kinds 1 to 12
 module _ {s : State} (h : Sound s) (o : s.callback.kind ≡ 0) (p : ℕ) (l : p < s.wiring.n) where
   get_wake_good : Good (get_wake s p)
   unfolding get_wake
@@ -44,11 +43,6 @@ module _ {s : State} (h : Sound s) (o : s.callback.kind ≡ 0) (p : ℕ) (l : p 
         set_actives = set_active_good h o p l;
         set_suspendeds = set_suspended_good h o p l;
         ignores = λ a. ignore_children_good h o p l v (flag_low v a);
-        ticks = tick_good h p v;
-        marks = mark_busy_good h o p l;
-        delays = λ a. set_delay_good h o p l v (delay_low v a);
-        autos = λ a. use_autosuspend_good h o p l v (auto_low v a);
-        autosuspends = autosuspend_good h o p l;
       }
 
 -- ---- kind 13
@@ -70,6 +64,5 @@ record_sound {s} h r =
       refuses = λ number. h;
       results = λ k a o q. rw q (result_good h r.value a o);
       busy = h;
-      ticks = λ k f. tick_good h r.device r.value;
-      requests = λ f w o. by_kind (λ kind. Good) (kinds_good h o r.device f.known r.value) r.kind w f.fits;
+      requests = λ f ne o. by_kind (λ kind. Good) (kinds_good h o r.device f.known r.value) r.kind f.low f.high ne f.fits;
     })

@@ -13,11 +13,11 @@ use Rattle.model.specs.State.{State, SUSPENDED, RESUMING, ACTIVE, status_at, err
 use Rattle.model.specs.WakeSet.{Sleeping, InWake, self, lowest}
 use Rattle.model.specs.Requests.{barred, others_barred, ask_resume, wake}
 use Rattle.model.specs.Steps.{go_on, resume_result}
-use Rattle.model.specs.Sound.{Steady, ResumeOpen, resume_open, Sound}
+use Rattle.model.specs.Sound.{Carried, Steady, ResumeOpen, resume_open, Sound}
 use Rattle.model.proofs.Basics.{by_if, at_set}
 use Rattle.model.proofs.Logic.{tests}
 use Rattle.model.proofs.WakeSet.{member_below, member_asleep, fewer, lowest_rests, wake_iff, first_lowest, first_is}
-use Rattle.model.proofs.Keeping.{KeptIn, Beside, status_row, kept_status, kept_error, none_open_lem, beside, quiet, closing}
+use Rattle.model.proofs.Keeping.{KeptIn, status_row, kept_status, kept_error, none_open_lem, quiet, closing}
 use Rattle.model.proofs.Holding.{Good}
 use Rattle.model.proofs.Suspending.{turned}
 
@@ -27,7 +27,7 @@ Clear s t = (q : ℕ) → InWake s.wiring s.devices.status t q → (error_at s q
 
 -- the lowest member of t's wake set turns resuming
 ask_resume_good :
-    (s : State) → KeptIn s → Beside s → ((q : ℕ) → Steady (status_at s q))
+    (s : State) → KeptIn s → Carried s.carry → ((q : ℕ) → Steady (status_at s q))
     → (t : ℕ) → t < s.wiring.n → lowest s t < s.wiring.n → Clear s t → Good (ask_resume s t)
 unfolding ask_resume
 ask_resume_good s k c st t l some clear =
@@ -40,8 +40,7 @@ ask_resume_good s k c st t l some clear =
     let into : (q : ℕ) → Sleeping old q → Sleeping (set old x RESUMING) q = at_set (λ q v. Sleeping old q → v < 2) old x RESUMING row (λ z. omega arith) (λ q ne z. z) in
     record {
       kept = kept_status s k x RESUMING some (omega arith) (λ z. lowest_rests k.table.order l m) (λ z y. absurd (omega arith));
-      timed = c.0;
-      carried = c.1;
+      carried = c;
       callback =
           resume_open
           (record {
@@ -62,7 +61,7 @@ module _ {s : State} (h : Sound s) (o : s.callback.kind ≡ 0) (p : ℕ) (l : p 
       (λ e. by_if Good _ _ _ (λ d. h)
       (λ d. by_if Good _ _ _ (λ a. h)
       (λ a. by_if Good _ _ _ (λ b. h)
-      (λ b. ask_resume_good s h.kept (beside h) steady p l (some a) (clear e d b)))))
+      (λ b. ask_resume_good s h.kept h.carried steady p l (some a) (clear e d b)))))
     where
       steady : (q : ℕ) → Steady (status_at s q)
       steady = (none_open_lem h.callback o).steady
@@ -91,10 +90,10 @@ module _ {s : State} (h : Sound s) (v : ℕ) where
       by_if Good _ _ _
       (λ e. by_if Good _ _ _
       (λ f.
-      ask_resume_good (closed (with_status s p ACTIVE)) woken.kept (beside h) (turned h v o.steady low ACTIVE (omega arith))
+      ask_resume_good (closed (with_status s p ACTIVE)) woken.kept h.carried (turned h v o.steady low ACTIVE (omega arith))
       s.callback.target o.target (ltb-true _ _ f) (λ q i. o.clear q (fewer back i)))
       (λ f. woken))
-      (λ e. quiet _ (kept_error (closed (with_status s p SUSPENDED)) asleep.kept p _ low (small e)) (beside h) (none_open_lem asleep.callback refl))
+      (λ e. quiet _ (kept_error (closed (with_status s p SUSPENDED)) asleep.kept p _ low (small e)) h.carried (none_open_lem asleep.callback refl))
     where
       low : s.callback.asked < s.wiring.n
       low = member_below h.kept.table.order o.target o.asked.member
@@ -105,14 +104,14 @@ module _ {s : State} (h : Sound s) (v : ℕ) where
           closing (with_status s p ACTIVE)
           (kept_status s h.kept p ACTIVE low (omega arith) (λ z q. h.kept.supply.rests p q (let y = o.status in omega arith))
           (λ z. absurd (omega arith)))
-          (beside h) (turned h v o.steady low ACTIVE (omega arith))
+          h.carried (turned h v o.steady low ACTIVE (omega arith))
 
       asleep : Sound (closed (with_status s s.callback.asked SUSPENDED))
       asleep =
           let p = s.callback.asked in
           closing (with_status s p SUSPENDED)
           (kept_status s h.kept p SUSPENDED low (omega arith) (λ z. absurd (omega arith)) (λ z y. let x = o.status in absurd (omega arith)))
-          (beside h) (turned h v o.steady low SUSPENDED (omega arith))
+          h.carried (turned h v o.steady low SUSPENDED (omega arith))
 
       back : (q : ℕ) → Sleeping (set s.devices.status s.callback.asked ACTIVE) q → Sleeping s.devices.status q
       back =

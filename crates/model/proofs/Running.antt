@@ -19,14 +19,14 @@ use Rattle.model.specs.Sound.{Carried, Sound}
 use Rattle.model.specs.Demand3.{is_get, is_put, effective, counted}
 use Rattle.model.proofs.Basics.{by_if, at_set}
 use Rattle.model.proofs.Logic.{tests}
-use Rattle.model.proofs.Keeping.{room, callback_unread}
+use Rattle.model.proofs.Keeping.{room, callback_carry}
 use Rattle.model.proofs.Steps.{by_kind, by_record}
-use Rattle.model.proofs.Setters.{Stable, but_holds, on_idle, on_wake, on_result, on_tick, carry_kept}
+use Rattle.model.proofs.Setters.{Stable, but_holds, on_idle, on_wake, on_result, carry_kept}
 use Rattle.model.proofs.Records.{record_sound}
 
 -- ---- soundness over bytes
 pub sound_carry : {s : State} → Sound s → (bytes : List ℕ) (used : ℕ) → Carried (record { bytes = bytes; used = used }) → Sound (with_carry s bytes used)
-sound_carry h b u c = record { kept = h.kept; timed = h.timed; carried = c; callback = callback_unread (record { bytes = b; used = u }) _ h.callback }
+sound_carry h b u c = record { kept = h.kept; carried = c; callback = callback_carry b u h.callback }
 
 pub nothing_carried : Carried (record { bytes = replicate 3 0; used = 0 })
 nothing_carried = record { few = omega arith; long = refl; unused = zeros }
@@ -137,7 +137,7 @@ abbrev Same : State → State → Type 0
 Same s t = t.devices.holds ≡ s.devices.holds
 
 same_stable : (s : State) → Stable (Same s)
-same_stable s = record { status = λ p v e. e; depth = λ p v e. e; error = λ p v e. e; ignore = λ p v e. e; opened = λ k a t e. e; timers = λ t e. e }
+same_stable s = record { status = λ p v e. e; depth = λ p v e. e; error = λ p v e. e; ignore = λ p v e. e; opened = λ k a t e. e }
 
 abbrev Counts : Done → Type 0
 Counts d = effective d.reply ≡ true
@@ -154,7 +154,7 @@ idle_counts s p = by_if Counts _ _ _ (λ e. test) (λ e. by_if Counts _ _ _ (λ 
     Code x = Counts (finished s p x)
 
     test : Code (suspend_test s p)
-    test = by_if Code _ _ _ (λ e. refl) (λ e. by_if Code _ _ _ (λ e. refl) (λ e. by_if Code _ _ _ (λ e. refl) (λ e. by_if Code _ _ _ (λ e. refl) (λ e. by_if Code _ _ _ (λ e. refl) (λ e. refl)))))
+    test = by_if Code _ _ _ (λ e. refl) (λ e. by_if Code _ _ _ (λ e. refl) (λ e. by_if Code _ _ _ (λ e. refl) (λ e. by_if Code _ _ _ (λ e. refl) (λ e. refl))))
 
 -- ---- every record
 module _ {s : State} (h : Sound s) (p : ℕ) (l : p < s.wiring.n) where
@@ -208,14 +208,13 @@ moves_record {s} h r =
       refuses = λ number. idle_reply p _ _ _ refl refl;
       results = λ k a o q. rw k (plain p _ (on_result (Same s) (same_stable s) refl p r.value));
       busy = idle_reply p _ _ _ refl refl;
-      ticks = λ k f. rw k (plain p _ (on_tick (Same s) (same_stable s) refl p r.value));
       requests =
-          λ f w o.
+          λ f ne o.
           let l = f.known in
           by_kind (λ kind. Moves s p (is_get kind) (is_put kind))
           (but_holds (Same s) (same_stable s) refl p r.value _ (others h p l) (moves_get h p l) (moves_get_wake h p l) (moves_put h p l)
           (moves_put_idle h p l))
-          r.kind w f.fits;
+          r.kind f.low f.high ne f.fits;
     })
 
 -- ---- holds over a run: holds and counted puts are the holds at the start and counted gets

@@ -3,9 +3,9 @@ use mathlib.Core.Path.{◌≡◌, refl}
 use mathlib.Core.Logic.{◌⊎◌, inl, inr}
 use Prim.Native.Nat.{ℕ, ◌<◌, ◌≤◌}
 use native.Mathlib.Omega.{arith}
-use Rattle.model.specs.State.{State, Timers, with_ignore, with_holds, with_depth, with_error, with_status, with_callback, with_timers}
+use Rattle.model.specs.State.{State, with_ignore, with_holds, with_depth, with_error, with_status, with_callback}
 use Rattle.model.specs.Records.{Rec, Done}
-use Rattle.model.specs.Requests.{enable, disable, get, put, ask_suspend, idle, suspend, ask_resume, wake, get_wake, idle_unused, put_idle, set_active, set_suspended, ignore_children, tick, mark_busy, set_delay, use_autosuspend, autosuspend}
+use Rattle.model.specs.Requests.{enable, disable, get, put, ask_suspend, idle, suspend, ask_resume, wake, get_wake, idle_unused, put_idle, set_active, set_suspended, ignore_children}
 use Rattle.model.specs.Steps.{idle_result, suspend_result, go_on, resume_result, result, record_step}
 use Rattle.model.proofs.Basics.{by_if}
 use Rattle.model.proofs.Steps.{Kinds, by_kind, by_record}
@@ -17,7 +17,6 @@ pub record Stable (P : State → Type 0) : Type 0 where
   pub error : {s : State} (p v : ℕ) → P s → P (with_error s p v)
   pub ignore : {s : State} (p v : ℕ) → P s → P (with_ignore s p v)
   pub opened : {s : State} (k a t : ℕ) → P s → P (with_callback s k a t)
-  pub timers : {s : State} (t : Timers) → P s → P (with_timers s t)
 
 module _ (P : State → Type 0) (c : Stable P) where
   abbrev On : Done → Type 0
@@ -64,26 +63,6 @@ module _ (P : State → Type 0) (c : Stable P) where
     unfolding disable
     on_disable = by_if On _ _ _ (λ e. h) (λ e. c.depth _ _ h)
 
-    pub on_tick : (v : ℕ) → P (tick s p v).state
-    unfolding tick
-    on_tick v = by_if On _ _ _ (λ e. h) (λ e. c.timers _ h)
-
-    on_mark : P (mark_busy s p).state
-    unfolding mark_busy
-    on_mark = c.timers _ h
-
-    on_delay : (v : ℕ) → P (set_delay s p v).state
-    unfolding set_delay
-    on_delay v = c.timers _ h
-
-    on_auto : (v : ℕ) → P (use_autosuspend s p v).state
-    unfolding use_autosuspend
-    on_auto v = c.timers _ h
-
-    on_autosuspend : P (autosuspend s p).state
-    unfolding autosuspend
-    on_autosuspend = by_if On _ _ _ (λ e. h) (λ e. on_suspend)
-
     -- every kind but the gets and puts keeps it
     pub but_holds :
         (v : ℕ) (Q : ℕ → Done → Type 0) → ((kind : ℕ) → kind < 3 ⊎ 7 ≤ kind → (d : Done) → On d → Q kind d)
@@ -102,11 +81,6 @@ module _ (P : State → Type 0) (c : Stable P) where
           set_actives = f 10 (inr (omega arith)) _ on_active;
           set_suspendeds = f 11 (inr (omega arith)) _ on_suspended;
           ignores = λ a. f 12 (inr (omega arith)) _ (on_ignore v);
-          ticks = f 14 (inr (omega arith)) _ (on_tick v);
-          marks = f 15 (inr (omega arith)) _ on_mark;
-          delays = λ a. f 16 (inr (omega arith)) _ (on_delay v);
-          autos = λ a. f 17 (inr (omega arith)) _ (on_auto v);
-          autosuspends = f 18 (inr (omega arith)) _ on_autosuspend;
         }
 
   -- the callback closed after a status
@@ -140,13 +114,12 @@ module _ (P : State → Type 0) (c : Stable P) where
           refuses = λ number. h;
           results = λ k a o q. on_result h r.device r.value;
           busy = h;
-          ticks = λ k f. on_tick h r.device r.value;
-          requests = λ f w o. by_kind (λ kind. On) (kinds_keep r.device r.value) r.kind w f.fits;
+          requests = λ f ne o. by_kind (λ kind. On) (kinds_keep r.device r.value) r.kind f.low f.high ne f.fits;
         })
 
 -- no record touches the carried bytes
 pub carry_kept : (s : State) (r : Rec) → (record_step s r).state.carry ≡ s.carry
 carry_kept s r =
     step_keeps (λ x. x.carry ≡ s.carry)
-    (record { status = λ p v e. e; depth = λ p v e. e; error = λ p v e. e; ignore = λ p v e. e; opened = λ k a t e. e; timers = λ t e. e })
+    (record { status = λ p v e. e; depth = λ p v e. e; error = λ p v e. e; ignore = λ p v e. e; opened = λ k a t e. e })
     (λ s p v e. e) refl r

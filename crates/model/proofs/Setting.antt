@@ -17,7 +17,7 @@ use Rattle.model.specs.Sound.{Steady, NoneOpen, Sound}
 use Rattle.model.proofs.Basics.{by_if, at_set}
 use Rattle.model.proofs.Logic.{tests, or_fails}
 use Rattle.model.proofs.Counting.{child_counted}
-use Rattle.model.proofs.Keeping.{Fed, Alone, room, row_used, status_row, kept_status, kept_error, kept_ignore, alone_free, none_open_lem, beside, quiet}
+use Rattle.model.proofs.Keeping.{Fed, Alone, room, row_used, status_row, kept_status, kept_error, kept_ignore, alone_free, none_open_lem, quiet}
 use Rattle.model.proofs.Holding.{Good}
 use Rattle.model.proofs.Suspending.{childless}
 
@@ -43,7 +43,7 @@ module _ {s : State} (h : Sound s) (o : s.callback.kind ≡ 0) (p : ℕ) (l : p 
       (λ e. by_if Good _ _ _ (λ d. h)
       (λ d.
       let k = kept_status s h.kept p ACTIVE l (omega arith) (λ z. fed d) (λ z. absurd (omega arith)) in
-      quiet _ (kept_error (with_status s p ACTIVE) k p 0 l (omega arith)) (beside h) (still ACTIVE (omega arith))))
+      quiet _ (kept_error (with_status s p ACTIVE) k p 0 l (omega arith)) h.carried (still ACTIVE (omega arith))))
     where
       fed : parent_down s p or supplier_down s p ≡ false → Fed s p
       fed d q (child e ne ig) = let f = simp tests at d in rw (← e) (le_of_eq (sym (f.0 (rw e ne) (rw e ig))))
@@ -57,7 +57,7 @@ module _ {s : State} (h : Sound s) (o : s.callback.kind ≡ 0) (p : ℕ) (l : p 
       (λ d.
       let free = alone_free s h.kept p l (λ r ne. steady r) (alone d) in
       let k = kept_status s h.kept p SUSPENDED l (omega arith) (λ z. absurd (omega arith)) (λ z y. free) in
-      quiet _ (kept_error (with_status s p SUSPENDED) k p 0 l (omega arith)) (beside h) (still SUSPENDED (omega arith))))
+      quiet _ (kept_error (with_status s p SUSPENDED) k p 0 l (omega arith)) h.carried (still SUSPENDED (omega arith))))
     where
       alone : needed s p ≡ false → Alone s p
       alone d = let f = (or_fails _ _).0 d in record { links = omega (arith, f.1, ltb-false); children = childless s p f.0 }
@@ -67,7 +67,7 @@ module _ {s : State} (h : Sound s) (o : s.callback.kind ≡ 0) (p : ℕ) (l : p 
   unfolding ignore_children
   ignore_children_good v hv =
       by_if Good _ _ _ (λ e. h)
-      (λ e. quiet _ (kept_ignore s h.kept p v l hv (record { rests = λ a q u d. rests e a q u d })) (beside h) (none_open_lem h.callback o))
+      (λ e. quiet _ (kept_ignore s h.kept p v l hv (record { rests = λ a q u d. rests e a q u d })) h.carried (none_open_lem h.callback o))
     where
       counted : (a : ℕ) → RESUMING ≤ status_at s a → get_or s.wiring.parent a 0 ≡ p → (p ≡ 255 → ⊥) → 1 ≤ children_at s p
       counted a u c ne =

@@ -9,14 +9,14 @@ use native.Mathlib.Decide.{dec_lt}
 use lib.ListN.{length, get_or, get_or-eq_default}
 use lib.Seq.{ext_get_or}
 use borrow.Author.Tests.{eqb-true, eq-eqb, ne_eqb}
-use Rattle.model.specs.Limits.{LINKS, ROWS, MAXHOLDS, MAXDEPTH, MAXERROR, MAXDELAY, MAXCLOCK}
+use Rattle.model.specs.Limits.{LINKS, ROWS, MAXHOLDS, MAXDEPTH, MAXERROR}
 use Rattle.model.specs.Logic.{if◌then◌else◌}
 use Rattle.model.specs.Table.{Wiring, parent_good, ends_good}
 use Rattle.model.specs.State.{State, Devices, Carry, SUSPENDED, SUSPENDING, status_at, error_at, depth_at}
 use Rattle.model.specs.WakeSet.{Needs, child, link, InWake, Lowest, lowest}
 use Rattle.model.specs.Requests.{barred}
-use Rattle.model.specs.Sound.{Column, Ordered, TableRules, Supply, Timed, Carried, Steady, OthersSteady, CallbackRules, none_open, suspend_open, resume_open, idle_open, Sound}
-use Rattle.model.specs.SoundTest.{column_test, table_test, same_test, parent_supplies, link_supplies, supply_test, kept_test, timed_test, carried_test, steady_test, all_steady, others_steady, members_clear, none_test, suspend_open_test, resume_open_test, idle_open_test, callback_test, sound_test}
+use Rattle.model.specs.Sound.{Column, Ordered, TableRules, Supply, Carried, Steady, OthersSteady, CallbackRules, none_open, suspend_open, resume_open, idle_open, Sound}
+use Rattle.model.specs.SoundTest.{column_test, table_test, same_test, parent_supplies, link_supplies, supply_test, kept_test, carried_test, steady_test, all_steady, others_steady, members_clear, none_test, suspend_open_test, resume_open_test, idle_open_test, callback_test, sound_test}
 use Rattle.model.proofs.Basics.{by_if, never, few_rows, and_parts}
 use Rattle.model.proofs.Logic.{tests}
 use Rattle.model.proofs.Counting.{long_children, long_linked}
@@ -37,10 +37,6 @@ pub record Shaped (s : State) : Type 0 where
   pub children : length s.devices.children ≡ ROWS
   pub linked : length s.devices.linked ≡ ROWS
   pub bytes : length s.carry.bytes ≡ 3
-  pub delay : length s.timers.delay ≡ ROWS
-  pub busy : length s.timers.busy ≡ ROWS
-  pub auto : length s.timers.auto ≡ ROWS
-  pub clock : length s.timers.clock ≡ 1
 
 -- ---- columns
 pub column_iff : (rows n most : ℕ) (col : List ℕ) → n ≤ rows → length col ≡ rows → (column_test rows n most col ≡ true) ↔ Column rows n most col
@@ -170,27 +166,6 @@ module _ (s : State) (g : Shaped s) where
         simp tests ((table_iff s g).1 k.table, (st, (ho, (de, (er, (ch, (li, su))))))),
   )
 
-timed_iff : (s : State) → Shaped s → s.wiring.n ≤ ROWS → (timed_test s.wiring.n s.timers ≡ true) ↔ Timed s.wiring.n s.timers
-unfolding timed_test
-timed_iff s g hn = (
-  λ e.
-      let (de, e1) = simp tests at e in
-      let (bu, e2) = e1 in
-      let (au, cl) = e2 in
-      record {
-        delays = (column_iff ROWS _ MAXDELAY _ hn g.delay).0 de;
-        busies = (column_iff ROWS _ MAXCLOCK _ hn g.busy).0 bu;
-        autos = (column_iff ROWS _ 1 _ hn g.auto).0 au;
-        clock = (column_iff 1 1 MAXCLOCK _ (omega arith) g.clock).0 cl;
-      },
-  λ t.
-      let de = (column_iff _ _ _ _ hn g.delay).1 t.delays in
-      let bu = (column_iff _ _ _ _ hn g.busy).1 t.busies in
-      let au = (column_iff _ _ _ _ hn g.auto).1 t.autos in
-      let cl = (column_iff 1 1 MAXCLOCK _ (omega arith) g.clock).1 t.clock in
-      simp tests (de, (bu, (au, cl))),
-)
-
 carried_iff : (c : Carry) → length c.bytes ≡ 3 → (carried_test c ≡ true) ↔ Carried c
 unfolding carried_test
 carried_iff c long = (
@@ -298,13 +273,10 @@ unfolding sound_test
 sound_iff s g = (
   λ e.
       let (a, f) = simp tests at e in
-      let (t, f1) = f in
-      let (b, c) = f1 in
+      let (b, c) = f in
       let k = (kept_iff s g).0 a in
-      record { kept = k; timed = (timed_iff s g (few_rows k.table.order.devices)).0 t; carried = (carried_iff s.carry g.bytes).0 b; callback = test_callback s k c },
-  λ h.
-      let t = (timed_iff s g (few_rows h.kept.table.order.devices)).1 h.timed in
-      simp tests ((kept_iff s g).1 h.kept, (t, ((carried_iff s.carry g.bytes).1 h.carried, callback_test_lem s h.kept h.callback))),
+      record { kept = k; carried = (carried_iff s.carry g.bytes).0 b; callback = test_callback s k c },
+  λ h. simp tests ((kept_iff s g).1 h.kept, ((carried_iff s.carry g.bytes).1 h.carried, callback_test_lem s h.kept h.callback)),
 )
 
 pub sound_shaped : {s : State} → Sound s → Shaped s
@@ -323,10 +295,6 @@ sound_shaped h =
       children = rw k.children (long_children _ _);
       linked = rw k.linked (long_linked _ _);
       bytes = h.carried.long;
-      delay = h.timed.delays.long;
-      busy = h.timed.busies.long;
-      auto = h.timed.autos.long;
-      clock = h.timed.clock.long;
     }
 
 pub sound_tested : {s : State} → Sound s → sound_test s ≡ true

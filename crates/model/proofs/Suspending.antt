@@ -11,13 +11,13 @@ use borrow.Author.Tests.{ltb-false, eqb-false}
 use Rattle.model.specs.Limits.{MAXERROR, minus}
 use Rattle.model.specs.Logic.{◌and◌}
 use Rattle.model.specs.State.{State, SUSPENDED, ACTIVE, SUSPENDING, status_at, children_at, counts_children, children_of, linked_of, with_status, with_callback, closed}
-use Rattle.model.specs.Requests.{kept_on, uses_auto, suspend_test, ask_suspend, idle, suspend}
+use Rattle.model.specs.Requests.{suspend_test, ask_suspend, idle, suspend}
 use Rattle.model.specs.Steps.{idle_result, suspend_result}
-use Rattle.model.specs.Sound.{Steady, OthersSteady, SuspendOpen, IdleOpen, suspend_open, idle_open, Sound}
+use Rattle.model.specs.Sound.{Carried, Steady, OthersSteady, SuspendOpen, IdleOpen, suspend_open, idle_open, Sound}
 use Rattle.model.proofs.Basics.{by_if, at_set}
 use Rattle.model.proofs.Logic.{tests}
 use Rattle.model.proofs.Counting.{same_children, same_linked}
-use Rattle.model.proofs.Keeping.{KeptIn, Beside, Alone, status_row, kept_status, kept_error, alone_free, none_open_lem, beside, quiet, closing}
+use Rattle.model.proofs.Keeping.{KeptIn, Alone, status_row, kept_status, kept_error, alone_free, none_open_lem, quiet, closing}
 use Rattle.model.proofs.Holding.{Good}
 
 -- no powered child counts
@@ -32,23 +32,22 @@ test_alone s p =
     (λ e. by_if (λ x. x ≡ 0 → Alone s p) _ _ _ (λ e f. absurd (omega arith))
     (λ d. by_if (λ x. x ≡ 0 → Alone s p) _ _ _ (λ e f. absurd (omega arith))
     (λ u. by_if (λ x. x ≡ 0 → Alone s p) _ _ _ (λ e f. absurd (omega arith))
-    (λ c. by_if (λ x. x ≡ 0 → Alone s p) _ _ _ (λ e f. absurd (omega arith))
-    (λ on f. record { links = omega (arith, ltb-false); children = childless s p c })))))
+    (λ c f. record { links = omega (arith, ltb-false); children = childless s p c }))))
 
 -- the suspend test does not read the callback, and reads the status through the counts only
 test_open : (s : State) (kind asked target p : ℕ) → suspend_test (with_callback s kind asked target) p ≡ suspend_test s p
-unfolding suspend_test kept_on uses_auto
+unfolding suspend_test
 test_open s kind asked target p = refl
 
 test_counts :
     (s : State) (p q v : ℕ) → linked_of s.wiring (set s.devices.status q v) ≡ s.devices.linked
     → children_of s.wiring (set s.devices.status q v) ≡ s.devices.children → suspend_test (with_status s q v) p ≡ suspend_test s p
-unfolding suspend_test kept_on uses_auto
+unfolding suspend_test
 test_counts s p q v e f = rw (e, f)
 
 -- an active device that passes the test turns suspending
 pub ask_suspend_good :
-    (s : State) → KeptIn s → Beside s → ((q : ℕ) → Steady (status_at s q))
+    (s : State) → KeptIn s → Carried s.carry → ((q : ℕ) → Steady (status_at s q))
     → (p : ℕ) → p < s.wiring.n → status_at s p ≡ ACTIVE → suspend_test s p ≡ 0 → Good (ask_suspend s p)
 unfolding ask_suspend
 ask_suspend_good s k c st p l a t =
@@ -57,8 +56,7 @@ ask_suspend_good s k c st p l a t =
     let children = same_children s.wiring s.devices.status p SUSPENDING row (rw a) ∙ sym k.children in
     record {
       kept = kept_status s k p SUSPENDING l (omega arith) (λ z q. k.supply.rests p q (omega arith)) (λ z. absurd (omega arith));
-      timed = c.0;
-      carried = c.1;
+      carried = c;
       callback =
           suspend_open
           (record {
@@ -83,7 +81,6 @@ module _ {s : State} (h : Sound s) (o : s.callback.kind ≡ 0) (p : ℕ) (l : p 
       (λ a.
       record {
         kept = h.kept;
-        timed = h.timed;
         carried = h.carried;
         callback =
             idle_open
@@ -105,7 +102,7 @@ module _ {s : State} (h : Sound s) (o : s.callback.kind ≡ 0) (p : ℕ) (l : p 
       (λ a.
       let z = steady p in
       let x = h.kept.statuses.used p l in
-      ask_suspend_good s h.kept (beside h) steady p l (omega (arith, eqb-false)) (omega (arith, ltb-false))))
+      ask_suspend_good s h.kept h.carried steady p l (omega (arith, eqb-false)) (omega (arith, ltb-false))))
 
 -- ---- results
 module _ {s : State} (h : Sound s) (v : ℕ) where
@@ -113,8 +110,8 @@ module _ {s : State} (h : Sound s) (v : ℕ) where
   unfolding idle_result
   idle_result_good o =
       by_if Good _ _ _
-      (λ e. ask_suspend_good (closed s) h.kept (beside h) o.steady s.callback.asked o.asked o.status (test_open s 0 0 0 _ ∙ o.passes))
-      (λ e. closing s h.kept (beside h) o.steady)
+      (λ e. ask_suspend_good (closed s) h.kept h.carried o.steady s.callback.asked o.asked o.status (test_open s 0 0 0 _ ∙ o.passes))
+      (λ e. closing s h.kept h.carried o.steady)
 
   -- the device asked takes another steady status
   pub turned : OthersSteady s s.callback.asked → s.callback.asked < s.wiring.n → (x : ℕ) → Steady x → (q : ℕ) → Steady (status_at (with_status s s.callback.asked x) q)
@@ -129,9 +126,9 @@ module _ {s : State} (h : Sound s) (v : ℕ) where
       let free = alone_free s h.kept p o.asked o.steady (test_alone s p o.passes) in
       closing (with_status s p SUSPENDED)
       (kept_status s h.kept p SUSPENDED o.asked (omega arith) (λ z. absurd (omega arith)) (λ z y. free))
-      (beside h) (turned o.steady o.asked SUSPENDED (omega arith)))
+      h.carried (turned o.steady o.asked SUSPENDED (omega arith)))
       (λ e. by_if Good _ _ _ (λ f. active)
-      (λ f. quiet _ (kept_error (closed (with_status s p ACTIVE)) active.kept p _ o.asked (small e)) (beside h) (none_open_lem active.callback refl)))
+      (λ f. quiet _ (kept_error (closed (with_status s p ACTIVE)) active.kept p _ o.asked (small e)) h.carried (none_open_lem active.callback refl)))
     where
       active : Sound (closed (with_status s s.callback.asked ACTIVE))
       active =
@@ -139,4 +136,4 @@ module _ {s : State} (h : Sound s) (v : ℕ) where
           closing (with_status s p ACTIVE)
           (kept_status s h.kept p ACTIVE o.asked (omega arith) (λ z q. h.kept.supply.rests p q (let y = o.status in omega arith))
           (λ z. absurd (omega arith)))
-          (beside h) (turned o.steady o.asked ACTIVE (omega arith))
+          h.carried (turned o.steady o.asked ACTIVE (omega arith))

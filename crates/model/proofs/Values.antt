@@ -1,4 +1,4 @@
--- What the table of kinds says of the values of kinds 12, 13, 16 and 17, and of the kinds that wait. Assumes nothing.
+-- What the table of kinds says of kinds 12 and 13, and of all others. Assumes nothing.
 use mathlib.Core.Path.{◌≡◌, refl}
 use mathlib.Core.Bool.{true, false, not}
 use Prim.Native.Nat.{ℕ, zero, suc, ◌+◌, ◌≤◌, ◌-◌}
@@ -7,50 +7,33 @@ use lib.Dec.{eqb}
 use lib.IntN.{pos, neg_ℤ}
 use lib.Signed.{le_z}
 use borrow.Author.Tests.{ltb-true, leb-true, eqb-false, ne_eqb, not-true}
-use Rattle.model.specs.Limits.{MAXERROR, MAXDELAY, minus}
+use Rattle.model.specs.Limits.{MAXERROR, minus}
 use Rattle.model.specs.Logic.{◌and◌, ◌or◌, all}
-use Rattle.model.specs.Records.{LAST, RESULT, TICK, kinds, kind_of, off_on, allowed}
+use Rattle.model.specs.Records.{LAST, RESULT, kinds, kind_of, allowed}
 use Rattle.model.proofs.Basics.{by_if, never, and_parts}
 use Rattle.model.proofs.Logic.{all_iff}
 
--- ---- kinds 12 and 17: 0 or 1
+-- ---- kind 12: 0 or 1
 neg_high : (k : ℕ) → 1 ≤ k → le_z (pos 0) (neg_ℤ (pos k)) ≡ true → ⊥
 neg_high zero h e = absurd (omega arith)
 neg_high (suc k) h e = never e refl
 
-flag_fits : (kind v : ℕ) → (kind_of kind).bounds ≡ off_on → allowed kind v ≡ true → v ≤ 1
-unfolding allowed
-flag_fits kind v o a =
+pub flag_low : (v : ℕ) → allowed 12 v ≡ true → v ≤ 1
+unfolding allowed kinds
+flag_low v a =
     by_if (λ z. le_z (pos 0) z ≡ true → le_z z (pos 1) ≡ true → v ≤ 1) _ _ _
     (λ e g h. absurd (neg_high (65536 - v) (let z = ltb-true v 65536 (and_parts _ _ e).1 in omega arith) g))
     (λ e g h. leb-true v 1 h)
-    (and_parts _ _ (rw o at a)).0 (and_parts _ _ (rw o at a)).1
+    (and_parts _ _ a).0 (and_parts _ _ a).1
 
-pub flag_low : (v : ℕ) → allowed 12 v ≡ true → v ≤ 1
-unfolding kinds
-flag_low v a = flag_fits 12 v refl a
-
-pub auto_low : (v : ℕ) → allowed 17 v ≡ true → v ≤ 1
-unfolding kinds
-auto_low v a = flag_fits 17 v refl a
-
--- ---- kind 16: 16 bits
-pub delay_low : (v : ℕ) → allowed 16 v ≡ true → v ≤ MAXDELAY
-unfolding allowed kinds
-delay_low v a =
-    by_if (λ z. le_z z (pos 32767) ≡ true → v ≤ MAXDELAY) _ _ _
-    (λ e h. let z = ltb-true v 65536 (and_parts _ _ e).1 in omega arith)
-    (λ e h. let z = leb-true v 32767 h in omega arith)
-    (and_parts _ _ a).1
-
--- ---- only a result and a tick are answered while a callback is open: a test over the table
-only_these : all (λ k. eqb k RESULT or eqb k TICK or not (kind_of k).always) (LAST + 1) ≡ true
+-- ---- only a result is answered while a callback is open: a test over the table
+only_result : all (λ k. eqb k RESULT or not (kind_of k).always) (LAST + 1) ≡ true
 unfolding all kinds ◌or◌ ◌and◌
-only_these = refl
+only_result = refl
 
-pub waits : (kind : ℕ) → kind ≤ LAST → (kind ≡ RESULT → ⊥) → (kind ≡ TICK → ⊥) → (kind_of kind).always ≡ false
+pub waits : (kind : ℕ) → kind ≤ LAST → (kind ≡ RESULT → ⊥) → (kind_of kind).always ≡ false
 unfolding ◌or◌
-waits kind h ne nt = let z = rw (ne_eqb kind RESULT ne, ne_eqb kind TICK nt) at ((all_iff _ (LAST + 1)).0 only_these kind (omega arith)) in not-true _ z
+waits kind h ne = let z = rw (ne_eqb kind RESULT ne) at ((all_iff _ (LAST + 1)).0 only_result kind (omega arith)) in not-true _ z
 
 -- ---- kind 13: 0, or the negative of 1 to 4,095
 neg_small : (k : ℕ) → le_z (neg_ℤ (pos MAXERROR)) (neg_ℤ (pos k)) ≡ true → k ≤ MAXERROR

@@ -27,13 +27,6 @@ MAXDEPTH = 255
 abbrev pub MAXERROR : ℕ
 MAXERROR = 4095
 
--- "any signed value" of 16 bits, as it stands; "any 32 bits" (request Six)
-abbrev pub MAXDELAY : ℕ
-MAXDELAY = 65535
-
-abbrev pub MAXCLOCK : ℕ
-MAXCLOCK = 4294967295
-
 -- "piece over 4,096 bytes"
 abbrev pub MAXPIECE : ℕ
 MAXPIECE = 4096

@@ -1,8 +1,8 @@
 -- "Public questions on a bench", with refusals 21 and 24. Assumes nothing.
-use Rattle.std.specs.Prelude.{Bool, true, not, List, ℕ, zero, suc, get_or, leb, eqb}
+use Rattle.std.specs.Prelude.{Bool, not, List, ℕ, zero, suc, get_or, leb, eqb}
 use Rattle.model.specs.Limits.{NONE}
 use Rattle.model.specs.Logic.{if◌then◌else◌, ◌or◌, bit}
-use Rattle.model.specs.State.{State, status_at, holds_at, children_at, usage, delay_at, busy_at, auto_at, clock_of}
+use Rattle.model.specs.State.{State, status_at, holds_at, children_at, usage}
 use Rattle.model.specs.WakeSet.{in_wake}
 use Rattle.model.specs.SoundTest.{sound_test}
 
@@ -47,16 +47,3 @@ parents_above s p = climb s.wiring.parent p p
 
 abbrev pub tell_above : State → ℕ → Told
 tell_above = about parents_above
-
--- autosuspend (request Six): the delay as it stands in 16 bits, last busy, the flag, and the clock, which is asked of no device
-abbrev pub tell_delay : State → ℕ → Told
-tell_delay = about delay_at
-
-abbrev pub tell_busy : State → ℕ → Told
-tell_busy = about busy_at
-
-abbrev pub tell_auto : State → ℕ → Told
-tell_auto = about auto_at
-
-abbrev pub tell_clock : State → Told
-tell_clock s = told s true (clock_of s)

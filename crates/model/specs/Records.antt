@@ -51,7 +51,7 @@ pub record Bounds : Type 0 where
 -- what is fixed for each kind beside what it does
 pub record Kind : Type 0 where
   pub bounds : Bounds
-  -- it is about the whole bench: device 0 alone may be named
+  -- it is about the whole bench: device 0 alone may be named. No kind of document 01 is
   pub whole : Bool
   -- it is answered also while a callback is open
   pub always : Bool
@@ -63,34 +63,21 @@ zero_only = record { least = pos 0; greatest = pos 0 }
 abbrev pub plain : Bounds → Kind
 plain b = record { bounds = b; whole = false; always = false }
 
--- a flag, off or on
-abbrev pub off_on : Bounds
-off_on = record { least = pos 0; greatest = pos 1 }
-
 -- by number: 0, which is no kind, to 11; then 12 and 13. "0 and 0, but 0 and 1 for kind 12, and -4,095 and 0 for kind 13"; "every
--- well_formed record but kind 13 is finished with -115" (house). Request Six: 14 to 18. A tick (14) is about the whole bench, "value 0 to
--- 32,767", and "answered even while a callback is open"; a delay (16) has "any signed value"; the flag (17) is 0 or 1
+-- well_formed record but kind 13 is finished with -115" (house)
 unfoldable pub kinds : List Kind
 kinds =
     replicate 12 (plain zero_only)
-    ++ plain off_on
+    ++ plain (record { least = pos 0; greatest = pos 1 })
     ∷ record { bounds = record { least = neg_ℤ (pos MAXERROR); greatest = pos 0 }; whole = false; always = true }
-    ∷ record { bounds = record { least = pos 0; greatest = pos 32767 }; whole = true; always = true }
-    ∷ plain zero_only
-    ∷ plain (record { least = neg_ℤ (pos 32768); greatest = pos 32767 })
-    ∷ plain off_on
-    ∷ plain zero_only
     ∷ []
 
--- the greatest kind, the kind of a callback's result, and that of a tick
+-- the greatest kind, and the kind of a callback's result
 abbrev pub LAST : ℕ
-LAST = 18
+LAST = 13
 
 abbrev pub RESULT : ℕ
 RESULT = 13
-
-abbrev pub TICK : ℕ
-TICK = 14
 
 abbrev pub kind_of : ℕ → Kind
 kind_of kind = get_or kinds kind (plain zero_only)

@@ -1,33 +1,22 @@
--- "Records and their replies": the requests, kinds 1 to 12 and 14 to 18, in the table's order, after what several of them share. Each is
--- finished with 0 where nothing else is said; "house" marks a rule that is document 01's own, "request Three" and "request Six" one that
--- document 02 has changed or added. Assumes nothing.
-use Rattle.std.specs.Prelude.{Bool, not, ℕ, ◌+◌, ◌-◌, ◌*◌, ◌/◌, ◌%◌, get_or, ltb, leb, eqb}
-use Rattle.model.specs.Limits.{NONE, MAXHOLDS, MAXDEPTH, MAXCLOCK, EAGAIN, EACCES, EBUSY, EINVAL, EOVERFLOW, minus}
+-- "Records and their replies": the requests, kinds 1 to 12, in the table's order, after what several of them share. Each is finished with
+-- 0 where nothing else is said; "house" marks a rule that is document 01's own, "request Three" one that document 02 has changed. Assumes
+-- nothing.
+use Rattle.std.specs.Prelude.{Bool, not, ℕ, ◌+◌, ◌-◌, ◌%◌, get_or, ltb, leb, eqb}
+use Rattle.model.specs.Limits.{NONE, MAXHOLDS, MAXDEPTH, EAGAIN, EACCES, EBUSY, EINVAL, EOVERFLOW, minus}
 use Rattle.model.specs.Logic.{if◌then◌else◌, ◌and◌, ◌or◌, any}
-use Rattle.model.specs.State.{State, SUSPENDED, RESUMING, ACTIVE, SUSPENDING, status_at, holds_at, depth_at, error_at, children_at, linked_at, usage, delay_at, busy_at, auto_at, clock_of, counts_children, with_holds, with_depth, with_error, with_status, with_ignore, with_callback}
-use Rattle.model.specs.State.{with_delay, with_busy, with_auto, with_clock}
+use Rattle.model.specs.State.{State, SUSPENDED, RESUMING, ACTIVE, SUSPENDING, status_at, holds_at, depth_at, error_at, children_at, linked_at, usage, counts_children, with_holds, with_depth, with_error, with_status, with_ignore, with_callback}
 use Rattle.model.specs.WakeSet.{in_wake, lowest}
 use Rattle.model.specs.Records.{Done, finished, ask}
 
 -- ---- what several kinds share
--- device p uses autosuspend ("the flag set")
-unfoldable pub uses_auto : State → ℕ → Bool
-uses_auto s p = ltb 0 (auto_at s p)
-
--- it uses autosuspend with a negative delay: it is not to be suspended (request Six)
-unfoldable pub kept_on : State → ℕ → Bool
-kept_on s p = uses_auto s p and leb 32768 (delay_at s p)
-
 -- "The suspend test": its code, 0 where it is passed. An error: -22. Disabled: -13 (request Three). In use by a holder or by a powered
--- consumer: -11. Powered children that count: -16. "With the flag set and a negative delay a suspend test that passed so far ends in -11"
--- (request Six)
+-- consumer: -11. Powered children that count: -16
 unfoldable pub suspend_test : State → ℕ → ℕ
 suspend_test s p =
     if ltb 0 (error_at s p) then minus EINVAL
     else if ltb 0 (depth_at s p) then minus EACCES
     else if ltb 0 (usage s p) then minus EAGAIN
     else if ltb 0 (children_at s p) and counts_children s p then minus EBUSY
-    else if kept_on s p then minus EAGAIN
     else 0
 
 -- the device turns suspending, and its suspend callback is asked for
@@ -154,39 +143,3 @@ unfoldable pub ignore_children : State → ℕ → ℕ → Done
 ignore_children s p v =
     if eqb v 0 and not (eqb (status_at s p) ACTIVE) and ltb 0 (children_at s p) then finished s p (minus EBUSY)
     else finished (with_ignore s p v) p 0
-
--- ---- the requests of autosuspend (request Six; answers house)
--- kind 14, tick: the clock goes on by v milliseconds; past its end: -75
-unfoldable pub tick : State → ℕ → ℕ → Done
-tick s p v =
-    if ltb MAXCLOCK (clock_of s + v) then finished s p (minus EOVERFLOW)
-    else finished (with_clock s (clock_of s + v)) p 0
-
--- kind 15, mark busy: "last busy becomes the clock"
-unfoldable pub mark_busy : State → ℕ → Done
-mark_busy s p = finished (with_busy s p (clock_of s)) p 0
-
--- kind 16, set delay
-unfoldable pub set_delay : State → ℕ → ℕ → Done
-set_delay s p v = finished (with_delay s p v) p 0
-
--- kind 17, use autosuspend
-unfoldable pub use_autosuspend : State → ℕ → ℕ → Done
-use_autosuspend s p v = finished (with_auto s p v) p 0
-
--- "Expiry is last busy plus delay, rounded up to a whole 1,000 when the delay is 1,000 or more; it may lie past the clock's end". It is asked
--- for where the delay is not negative
-unfoldable pub expiry : State → ℕ → ℕ
-expiry s p =
-    if leb 1000 (delay_at s p) then (busy_at s p + delay_at s p + 999) / 1000 * 1000
-    else busy_at s p + delay_at s p
-
--- an active device that passes the suspend test and uses autosuspend, before its expiry
-unfoldable pub too_early : State → ℕ → Bool
-too_early s p = eqb (suspend_test s p) 0 and eqb (status_at s p) ACTIVE and uses_auto s p and ltb (clock_of s) (expiry s p)
-
--- kind 18, autosuspend: too early: -11; else as 8
-unfoldable pub autosuspend : State → ℕ → Done
-autosuspend s p =
-    if too_early s p then finished s p (minus EAGAIN)
-    else suspend s p

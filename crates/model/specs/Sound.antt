@@ -1,8 +1,8 @@
 -- When a bench is sound (the paragraph after "What the keeper turns away"), as facts. Assumes nothing.
 use Rattle.std.specs.Prelude.{◌≡◌, List, true, ℕ, ◌<◌, ◌≤◌, ◌+◌, ◌-◌, get_or, length}
-use Rattle.model.specs.Limits.{DEVICES, LINKS, ROWS, NONE, MAXHOLDS, MAXDEPTH, MAXERROR, MAXDELAY, MAXCLOCK}
+use Rattle.model.specs.Limits.{DEVICES, LINKS, ROWS, NONE, MAXHOLDS, MAXDEPTH, MAXERROR}
 use Rattle.model.specs.Table.{Wiring, before}
-use Rattle.model.specs.State.{State, Devices, Callback, Carry, Timers, RESUMING, ACTIVE, SUSPENDING, status_at, error_at, depth_at, children_of, linked_of}
+use Rattle.model.specs.State.{State, Devices, Callback, Carry, RESUMING, ACTIVE, SUSPENDING, status_at, error_at, depth_at, children_of, linked_of}
 use Rattle.model.specs.WakeSet.{Needs, InWake, Lowest}
 use Rattle.model.specs.Requests.{suspend_test}
 
@@ -45,13 +45,6 @@ pub record Kept (w : Wiring) (d : Devices) : Type 0 where
   pub children : d.children ≡ children_of w d.status
   pub linked : d.linked ≡ linked_of w d.status
   pub supply : Supply w d.status
-
--- the fields of autosuspend lie in range (request Six): "every field added later"
-pub record Timed (n : ℕ) (t : Timers) : Type 0 where
-  pub delays : Column ROWS n MAXDELAY t.delay
-  pub busies : Column ROWS n MAXCLOCK t.busy
-  pub autos : Column ROWS n 1 t.auto
-  pub clock : Column 1 1 MAXCLOCK t.clock
 
 -- "0 to 3 bytes are carried, unused ones zero"
 pub record Carried (c : Carry) : Type 0 where
@@ -107,6 +100,5 @@ pub data CallbackRules (s : State) : Type 0 where
 -- "sound"
 pub record Sound (s : State) : Type 0 where
   pub kept : Kept s.wiring s.devices
-  pub timed : Timed s.wiring.n s.timers
   pub carried : Carried s.carry
   pub callback : CallbackRules s

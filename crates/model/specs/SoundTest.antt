@@ -1,10 +1,10 @@
 -- When a bench is sound, as a test that runs. `proofs/SoundTest.antt` has that the test and the facts of `Sound.antt` agree.
 -- Assumes nothing.
 use Rattle.std.specs.Prelude.{Bool, false, not, List, ℕ, ◌+◌, ◌-◌, ◌%◌, get_or, ltb, leb, eqb}
-use Rattle.model.specs.Limits.{DEVICES, LINKS, ROWS, NONE, MAXHOLDS, MAXDEPTH, MAXERROR, MAXDELAY, MAXCLOCK}
+use Rattle.model.specs.Limits.{DEVICES, LINKS, ROWS, NONE, MAXHOLDS, MAXDEPTH, MAXERROR}
 use Rattle.model.specs.Logic.{if◌then◌else◌, ◌and◌, ◌or◌, ◌implies◌, all}
 use Rattle.model.specs.Table.{Wiring, parent_good, ends_good, before}
-use Rattle.model.specs.State.{State, Devices, Carry, Timers, SUSPENDED, RESUMING, ACTIVE, SUSPENDING, powered, status_at, children_of, linked_of}
+use Rattle.model.specs.State.{State, Devices, Carry, SUSPENDED, RESUMING, ACTIVE, SUSPENDING, powered, status_at, children_of, linked_of}
 use Rattle.model.specs.WakeSet.{in_wake, lowest}
 use Rattle.model.specs.Requests.{suspend_test, barred}
 
@@ -56,13 +56,6 @@ kept_test w d =
     and same_test d.linked (linked_of w d.status)
     and supply_test w d.status
 
-unfoldable pub timed_test : ℕ → Timers → Bool
-timed_test n t =
-    column_test ROWS n MAXDELAY t.delay
-    and column_test ROWS n MAXCLOCK t.busy
-    and column_test ROWS n 1 t.auto
-    and column_test 1 1 MAXCLOCK t.clock
-
 unfoldable pub carried_test : Carry → Bool
 carried_test c = leb c.used 3 and all (λ i. leb c.used i implies eqb (get_or c.bytes i 0) 0) 3
 
@@ -101,4 +94,4 @@ callback_test s =
     else false
 
 unfoldable pub sound_test : State → Bool
-sound_test s = kept_test s.wiring s.devices and timed_test s.wiring.n s.timers and carried_test s.carry and callback_test s
+sound_test s = kept_test s.wiring s.devices and carried_test s.carry and callback_test s

@@ -52,23 +52,11 @@ pub record Carry : Type 0 where
   pub bytes : List ℕ
   pub used : ℕ
 
--- autosuspend (request Six): three numbers of each device, a column for each, and the clock of the bench
-pub record Timers : Type 0 where
-  -- "delay": the signed 16-bit number as it stands, 65,536 - k for -k
-  pub delay : List ℕ
-  -- "last busy": a time of the clock, which may be past it
-  pub busy : List ℕ
-  -- "the flag": 1 where the device uses autosuspend
-  pub auto : List ℕ
-  -- the clock in milliseconds, a column of one row
-  pub clock : List ℕ
-
 pub record State : Type 0 where
   pub wiring : Wiring
   pub devices : Devices
   pub callback : Callback
   pub carry : Carry
-  pub timers : Timers
 
 -- ---- reading a state
 abbrev pub status_at : State → ℕ → ℕ
@@ -92,18 +80,6 @@ linked_at s p = get_or s.devices.linked p 0
 -- "use count": user holds plus runtime links to it from powered consumers
 abbrev pub usage : State → ℕ → ℕ
 usage s p = holds_at s p + linked_at s p
-
-abbrev pub delay_at : State → ℕ → ℕ
-delay_at s p = get_or s.timers.delay p 0
-
-abbrev pub busy_at : State → ℕ → ℕ
-busy_at s p = get_or s.timers.busy p 0
-
-abbrev pub auto_at : State → ℕ → ℕ
-auto_at s p = get_or s.timers.auto p 0
-
-abbrev pub clock_of : State → ℕ
-clock_of s = get_or s.timers.clock 0 0
 
 -- device p counts its children: it does not ignore them
 abbrev pub counts_children : State → ℕ → Bool
@@ -134,7 +110,7 @@ linked_of w status = column (link_count w status) ROWS
 
 -- ---- changing a state: a setter for each group of fields that change together
 abbrev with_devices : State → Devices → State
-with_devices s d = record { wiring = s.wiring; devices = d; callback = s.callback; carry = s.carry; timers = s.timers }
+with_devices s d = record { wiring = s.wiring; devices = d; callback = s.callback; carry = s.carry }
 
 abbrev pub with_holds : State → ℕ → ℕ → State
 with_holds s p v = let d = s.devices in with_devices s (record { status = d.status; holds = set d.holds p v; depth = d.depth; error = d.error; children = d.children; linked = d.linked })
@@ -160,40 +136,19 @@ with_ignore s p v =
       devices = s.devices;
       callback = s.callback;
       carry = s.carry;
-      timers = s.timers;
     }
 
 abbrev pub with_callback : State → ℕ → ℕ → ℕ → State
-with_callback s kind asked target =
-    record { wiring = s.wiring; devices = s.devices; callback = record { kind = kind; asked = asked; target = target }; carry = s.carry; timers = s.timers }
+with_callback s kind asked target = record { wiring = s.wiring; devices = s.devices; callback = record { kind = kind; asked = asked; target = target }; carry = s.carry }
 
 -- no callback open
 abbrev pub closed : State → State
 closed s = with_callback s 0 0 0
 
 abbrev pub with_carry : State → List ℕ → ℕ → State
-with_carry s bytes used = record { wiring = s.wiring; devices = s.devices; callback = s.callback; carry = record { bytes = bytes; used = used }; timers = s.timers }
-
-abbrev pub with_timers : State → Timers → State
-with_timers s t = record { wiring = s.wiring; devices = s.devices; callback = s.callback; carry = s.carry; timers = t }
-
-abbrev pub with_delay : State → ℕ → ℕ → State
-with_delay s p v = let t = s.timers in with_timers s (record { delay = set t.delay p v; busy = t.busy; auto = t.auto; clock = t.clock })
-
-abbrev pub with_busy : State → ℕ → ℕ → State
-with_busy s p v = let t = s.timers in with_timers s (record { delay = t.delay; busy = set t.busy p v; auto = t.auto; clock = t.clock })
-
-abbrev pub with_auto : State → ℕ → ℕ → State
-with_auto s p v = let t = s.timers in with_timers s (record { delay = t.delay; busy = t.busy; auto = set t.auto p v; clock = t.clock })
-
-abbrev pub with_clock : State → ℕ → State
-with_clock s v = let t = s.timers in with_timers s (record { delay = t.delay; busy = t.busy; auto = t.auto; clock = set t.clock 0 v })
+with_carry s bytes used = record { wiring = s.wiring; devices = s.devices; callback = s.callback; carry = record { bytes = bytes; used = used } }
 
 -- ---- the state of a table just loaded, and the empty bench
--- delay, last busy and flag 0, and the clock at 0 (request Six)
-unfoldable pub no_timers : Timers
-no_timers = record { delay = replicate ROWS 0; busy = replicate ROWS 0; auto = replicate ROWS 0; clock = replicate 1 0 }
-
 -- "suspended .. no user holds, no powered children, error 0. No callback is open and no bytes are carried"
 unfoldable pub at_rest : Wiring → List ℕ → State
 at_rest w depth =
@@ -202,7 +157,6 @@ at_rest w depth =
       devices = record { status = replicate ROWS SUSPENDED; holds = replicate ROWS 0; depth = depth; error = replicate ROWS 0; children = replicate ROWS 0; linked = replicate ROWS 0 };
       callback = record { kind = 0; asked = 0; target = 0 };
       carry = record { bytes = replicate 3 0; used = 0 };
-      timers = no_timers;
     }
 
 -- "A loaded part is suspended, with disable depth 1"

@@ -6,7 +6,7 @@ use Rattle.model.specs.Logic.{if◌then◌else◌, ◌and◌, ◌or◌}
 use Rattle.model.specs.State.{State, SUSPENDED, ACTIVE, with_error, with_status, with_carry, closed}
 use Rattle.model.specs.WakeSet.{lowest}
 use Rattle.model.specs.Records.{Rec, Reply, Done, RESULT, record_of, reply_bytes, finished, refused, kind_of, fault}
-use Rattle.model.specs.Requests.{enable, disable, get, get_wake, put, put_idle, idle, ask_suspend, suspend, ask_resume, wake, set_active, set_suspended, ignore_children, tick, mark_busy, set_delay, use_autosuspend, autosuspend}
+use Rattle.model.specs.Requests.{enable, disable, get, get_wake, put, put_idle, idle, ask_suspend, suspend, ask_resume, wake, set_active, set_suspended, ignore_children}
 
 -- ---- kind 13: the result v of the open callback of the device p asked
 -- idle: 0 goes on to suspending; any other value finishes the request, and no error is kept (all house)
@@ -43,16 +43,7 @@ result s p v =
     else idle_result s p v
 
 -- ---- a whole record
--- kinds 14 to 18
-unfoldable pub time_request : State → ℕ → ℕ → ℕ → Done
-time_request s kind p v =
-    if eqb kind 14 then tick s p v
-    else if eqb kind 15 then mark_busy s p
-    else if eqb kind 16 then set_delay s p v
-    else if eqb kind 17 then use_autosuspend s p v
-    else autosuspend s p
-
--- kinds 1 to 12, and those
+-- kinds 1 to 12
 unfoldable pub request : State → ℕ → ℕ → ℕ → Done
 request s kind p v =
     if eqb kind 1 then enable s p
@@ -66,8 +57,7 @@ request s kind p v =
     else if eqb kind 9 then wake s p
     else if eqb kind 10 then set_active s p
     else if eqb kind 11 then set_suspended s p
-    else if eqb kind 12 then ignore_children s p v
-    else time_request s kind p v
+    else ignore_children s p v
 
 -- kind 13 for device p: "A callback result counts only when a callback is open, and only for the part asked", else 14 or 15
 unfoldable pub result_step : State → ℕ → ℕ → Done

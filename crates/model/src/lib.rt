@@ -40,12 +40,5 @@ pub const MAX_HOLDS: u32 = 32767;
 
 pub const MAX_ERROR: u32 = 4095;
 
-// The greatest delay as it stands in 16 bits, the least that stands for a negative one, and the end of the clock.
-pub const MAX_DELAY: u32 = 65535;
-
-pub const NEGATIVE: u32 = 32768;
-
-pub const MAX_CLOCK: u32 = 4294967295;
-
 // The most bytes of a piece of log.
 pub const PIECE: usize = 4096;

@@ -27,7 +27,7 @@ use Rattle.record_loop.proofs.Looping.{carried_first}
 -- ---- from the soundness test
 pub few_carried : (s : State) → sound_test s ≡ true → s.carry.used ≤ 3
 unfolding sound_test carried_test
-few_carried s e = (simp tests at e).1.1.0.0
+few_carried s e = (simp tests at e).1.0.0
 
 pub sound_in : (bytes words : List ℕ) → length bytes ≡ BYTES → length words ≡ WORDS
     → sound_test (state_in bytes words) ≡ true → Sound (state_in bytes words)

@@ -14,15 +14,10 @@ no_bounds = record { 0 = pos 0; 1 = pos 0 }
 abbrev pub bounds_table : List declared.Bounds
 bounds_table =
     no_bounds ∷ no_bounds ∷ no_bounds ∷ no_bounds ∷ no_bounds ∷ no_bounds ∷ no_bounds ∷ no_bounds ∷ no_bounds ∷ no_bounds ∷ no_bounds ∷ no_bounds
-    ∷ record { 0 = pos 0; 1 = pos 1 } ∷ record { 0 = negsuc 4094; 1 = pos 0 }
-    ∷ record { 0 = pos 0; 1 = pos 32767 } ∷ no_bounds ∷ record { 0 = negsuc 32767; 1 = pos 32767 } ∷ record { 0 = pos 0; 1 = pos 1 } ∷ no_bounds ∷ []
+    ∷ record { 0 = pos 0; 1 = pos 1 } ∷ record { 0 = negsuc 4094; 1 = pos 0 } ∷ []
 
 abbrev pub whole_table : List Bool
-whole_table =
-    false ∷ false ∷ false ∷ false ∷ false ∷ false ∷ false ∷ false ∷ false ∷ false ∷ false ∷ false ∷ false ∷ false ∷ true
-    ∷ false ∷ false ∷ false ∷ false ∷ []
+whole_table = false ∷ false ∷ false ∷ false ∷ false ∷ false ∷ false ∷ false ∷ false ∷ false ∷ false ∷ false ∷ false ∷ false ∷ []
 
 abbrev pub always_table : List Bool
-always_table =
-    false ∷ false ∷ false ∷ false ∷ false ∷ false ∷ false ∷ false ∷ false ∷ false ∷ false ∷ false ∷ false ∷ true
-    ∷ true ∷ false ∷ false ∷ false ∷ false ∷ []
+always_table = false ∷ false ∷ false ∷ false ∷ false ∷ false ∷ false ∷ false ∷ false ∷ false ∷ false ∷ false ∷ false ∷ true ∷ []

@@ -19,9 +19,9 @@ pub struct Record {
 // ---- the table of kinds
 
 // How many kinds there are, with 0, which is none; the greatest; and the kind of a callback's result.
-const KINDS: usize = 19;
+const KINDS: usize = 14;
 
-const LAST: u8 = 18;
+const LAST: u8 = 13;
 
 pub const RESULT: u8 = 13;
 
@@ -45,23 +45,17 @@ const BOUNDS: [Bounds; KINDS] = [
     Bounds(0, 0),
     Bounds(0, 1),
     Bounds(-4095, 0),
-    Bounds(0, 32767),
-    Bounds(0, 0),
-    Bounds(-32768, 32767),
-    Bounds(0, 1),
-    Bounds(0, 0),
 ];
 
 // The kinds that are about the whole bench, so that device 0 alone may be named.
 const WHOLE: [bool; KINDS] = [
     false, false, false, false, false, false, false, false, false, false, false, false, false,
-    false, true, false, false, false, false,
+    false,
 ];
 
 // The kinds that are answered also while a callback is open.
 const ALWAYS: [bool; KINDS] = [
-    false, false, false, false, false, false, false, false, false, false, false, false, false,
-    true, true, false, false, false, false,
+    false, false, false, false, false, false, false, false, false, false, false, false, false, true,
 ];
 
 // A 16-bit number read as signed.

@@ -63,7 +63,7 @@ few_bytes s (a ∷ b ∷ c ∷ d ∷ w) h = absurd (omega arith)
 -- ---- a state in which no byte waits
 module _ (s : State) (none : s.carry ≡ nothing) (w : List ℕ) (i : ℕ) where
   waits : none_wait s ≡ s
-  waits = λ j. record { wiring = s.wiring; devices = s.devices; callback = s.callback; carry = sym none j; timers = s.timers }
+  waits = λ j. record { wiring = s.wiring; devices = s.devices; callback = s.callback; carry = sym none j }
 
   -- the record at byte i leads from s to t, then the rest of the bytes
   abbrev Goes : State → Reply → State → Type 0

@@ -2,20 +2,21 @@
 use mathlib.Core.Path.{◌≡◌, ◌∙◌}
 use mathlib.Core.Bool.{true, false}
 use mathlib.Core.List.{List}
-use Prim.Native.Nat.{ℕ, suc, ◌≤◌, ◌<◌}
+use Prim.Native.Nat.{ℕ, suc, ◌≤◌}
 use native.Mathlib.Omega.{arith}
 use native.Mathlib.Decide.{ℕ_discrete, dec_lt}
-use lib.Dec.{ltb, eqb}
-use borrow.Author.Tests.{ltb-true, lt-ltb, ne_eqb}
+use lib.Dec.{ltb}
+use borrow.Author.Tests.{ltb-true, lt-ltb}
 use Rattle.model.specs.Logic.{if◌then◌else◌, ◌and◌, ◌or◌}
 use Rattle.model.specs.State.{State}
-use Rattle.model.specs.Requests.{put_idle, idle, suspend}
-use Rattle.model.specs.Steps.{time_request, request}
+use Rattle.model.specs.Records.{allowed}
+use Rattle.model.specs.Requests.{put_idle, idle, suspend, ignore_children}
+use Rattle.model.specs.Steps.{request}
 use Rattle.model.proofs.Basics.{and_parts, and_of, never}
 use Rattle.memory.specs.Layout.{state_in}
 use Rattle.request_answer.specs.declared.Reply.{Reply}
 use Rattle.request_suspend.specs.Sleeps.{LetsSleep}
-use Rattle.record_request.specs.Dispatch.{RequestLeads}
+use Rattle.record_request.specs.Dispatch.{Requested, RequestLeads}
 use Rattle.record_request.proofs.Staying.{idle_stays, put_idle_stays}
 
 -- ---- the model's lines of these kinds
@@ -32,26 +33,9 @@ module _ (s : State) (p v : ℕ) {kind : ℕ} where
   unfolding request if◌then◌else◌
   line_8 e = rw e
 
-  pub line_time : 13 ≤ kind → request s kind p v ≡ time_request s kind p v
+  pub line_12 : kind ≡ 12 → request s kind p v ≡ ignore_children s p v
   unfolding request if◌then◌else◌
-  line_time l =
-      rw (
-        none 1 (omega arith),
-        none 2 (omega arith),
-        none 3 (omega arith),
-        none 4 (omega arith),
-        none 5 (omega arith),
-        none 6 (omega arith),
-        none 7 (omega arith),
-        none 8 (omega arith),
-        none 9 (omega arith),
-        none 10 (omega arith),
-        none 11 (omega arith),
-        none 12 (omega arith),
-      )
-    where
-      none : (k : ℕ) → k < 13 → eqb kind k ≡ false
-      none k h = ne_eqb kind k (λ e. omega arith)
+  line_12 e = rw e
 
 -- ---- the path
 module _ {kind v p : ℕ} {first bytes₀ words₀ bytes words : List ℕ} {r : Reply} where
@@ -89,3 +73,10 @@ past_sleeping kind t l =
       | yes y ↦ never (and_of (ltb 5 kind) (ltb kind 9) (lt-ltb 5 kind l) (lt-ltb kind 9 y)) t
       | no g ↦ omega arith
     ]
+
+-- kind 12 is what is left of the requests after 1 to 11
+pub is_last : (kind v : ℕ) → Requested kind v → 12 ≤ kind → kind ≡ 12
+is_last kind v g l = let h = g.high in omega (arith, g.other)
+
+pub last_allowed : (kind v : ℕ) → Requested kind v → kind ≡ 12 → allowed 12 v ≡ true
+last_allowed kind v g e = rw e at g.fits

@@ -6,8 +6,7 @@ use links::FIRSTS;
 use memory::{BYTES, WORDS};
 use request_answer::{Reply, finished};
 
-// A request: one path for kinds 6, 7 and 8, since which of the three a record has cannot be foreseen, and one line for each other kind up
-// to 12; the dispatch of kinds 14 to 18 is that of `request_autosuspend`.
+// A request: one path for kinds 6, 7 and 8, since which of the three a record has cannot be foreseen, and one line for each other kind.
 pub fn request<'a>(
     bytes: &mut [u8; BYTES],
     words: &mut [u32; WORDS],
@@ -30,7 +29,6 @@ pub fn request<'a>(
         9 => request_wake::wake(bytes, words, first, p),
         10 => request_set::set_active(bytes, words, first, p),
         11 => request_set::set_suspended(bytes, words, first, p),
-        12 => request_set::ignore_children(bytes, p, v),
-        _ => request_autosuspend::request(bytes, words, first, kind, p, v),
+        _ => request_set::ignore_children(bytes, p, v),
     }
 }

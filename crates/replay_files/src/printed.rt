@@ -51,9 +51,6 @@ pub fn state(resumes: bool, progress: Progress) -> bool {
     if !line(resumes, lines::carried(bench)) {
         return false;
     }
-    if !line(resumes, lines::clock(bench)) {
-        return false;
-    }
     if !line(resumes, lines::callback(bench)) {
         return false;
     }

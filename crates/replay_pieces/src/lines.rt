@@ -1,7 +1,7 @@
 // The lines that are printed of a replay: the number of its replies, and the state that the log leaves.
 ghost use Rattle.std.specs.Prelude.{◌≡◌};
 ghost use Rattle.keeper_bench.specs.Translate.{state_of};
-ghost use Rattle.replay_pieces.specs.Lines.{replies_line, carried_line, clock_line, callback_line, device_line};
+ghost use Rattle.replay_pieces.specs.Lines.{replies_line, carried_line, callback_line, device_line};
 
 use crate::turn::Progress;
 use keeper_bench::Bench;
@@ -22,15 +22,6 @@ pub fn carried(bench: Bench) -> Line
     let bytes = bench.bytes;
     let used = memory::used(&bytes);
     replay_report::carried(used)
-}
-
-// The clock.
-pub fn clock(bench: Bench) -> Line
-    ensures { result ≡ clock_line (state_of bench) }
-{
-    let words = bench.words;
-    let time = memory::clock(&words);
-    replay_report::clock(time)
 }
 
 // The open callback.
@@ -56,9 +47,6 @@ pub fn device(bench: Bench, p: u8) -> Line
     let children = memory_rows::children(&bytes, p);
     let depth = memory_rows::depth(&bytes, p);
     let error = memory_rows::error(&words, p);
-    let delay = memory_timers::delay(&words, p);
-    let busy = memory_timers::busy(&words, p);
-    let auto = memory_timers::auto(&bytes, p);
     replay_row::device(
         p,
         Row {
@@ -68,9 +56,6 @@ pub fn device(bench: Bench, p: u8) -> Line
             children: children,
             depth: depth,
             error: error,
-            delay: delay,
-            busy: busy,
-            auto: auto,
         },
     )
 }

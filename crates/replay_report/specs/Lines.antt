@@ -16,10 +16,6 @@ replies_text n = ascii "replies " ++ decimal n ++ ascii "\n"
 unfoldable pub carried_text : ℕ → List ℕ
 carried_text b = ascii "carried " ++ decimal b ++ ascii "\n"
 
--- clock C
-unfoldable pub clock_text : ℕ → List ℕ
-clock_text c = ascii "clock " ++ decimal c ++ ascii "\n"
-
 -- callback none, callback suspend P, callback resume P for T, callback idle P; of a sound bench no other
 unfoldable pub callback_text : ℕ → ℕ → ℕ → List ℕ
 callback_text kind asked target =

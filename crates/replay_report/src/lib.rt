@@ -2,9 +2,9 @@
 ghost use Rattle.std.specs.Prelude.{◌≡◌};
 ghost use Rattle.table.specs.Answers.{answer_of};
 ghost use Rattle.replay_text.specs.Line.{line_of};
-ghost use Rattle.replay_report.specs.Lines.{refused_text, replies_text, carried_text, clock_text, callback_text};
+ghost use Rattle.replay_report.specs.Lines.{refused_text, replies_text, carried_text, callback_text};
 
-use basics::{long8, long16, long32};
+use basics::{long8, long16};
 use replay_text::line::{Line, field, start, word};
 use table::Answer;
 
@@ -29,13 +29,6 @@ pub fn carried(used: u8) -> Line
     ensures { result ≡ line_of (carried_text used) }
 {
     word(field(start(), b"carried ", long8(used)), b"\n")
-}
-
-// clock C
-pub fn clock(time: u32) -> Line
-    ensures { result ≡ line_of (clock_text time) }
-{
-    word(field(start(), b"clock ", long32(time)), b"\n")
 }
 
 // callback none, callback suspend P, callback idle P or callback resume P for T

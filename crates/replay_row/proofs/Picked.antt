@@ -1,5 +1,4 @@
 -- How long the words are that are picked. Assumes nothing.
-use mathlib.Core.Bool.{Bool}
 use Prim.Native.Nat.{ℕ, ◌≤◌}
 use native.Mathlib.Omega.{arith}
 use lib.Dec.{eqb}
@@ -15,6 +14,6 @@ status_short status =
     (short_if _ (eqb status 1) _ _ (omega arith)
     (short_if _ (eqb status 2) _ _ (omega arith) (short_if _ (eqb status 3) _ _ (omega arith) (omega arith))))
 
-pub sign_short : (negative : Bool) → length (sign_text negative) ≤ 1
+pub sign_short : (magnitude : ℕ) → length (sign_text magnitude) ≤ 1
 unfolding ascii sign_text
-sign_short negative = short_if _ negative _ _ (omega arith) (omega arith)
+sign_short magnitude = short_if _ (eqb magnitude 0) _ _ (omega arith) (omega arith)

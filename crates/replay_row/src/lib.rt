@@ -1,10 +1,9 @@
 // The line that the program `replay` prints of a device.
 ghost use Rattle.std.specs.Prelude.{◌≡◌, ◌+◌};
 ghost use Rattle.replay_text.specs.Line.{line_of, added};
-ghost use Rattle.replay_row.specs.Rows.{status_text, sign_text, magnitude, row_text};
+ghost use Rattle.replay_row.specs.Rows.{status_text, sign_text, row_text};
 
 use basics::{long8, long32};
-use model::{MAX_DELAY, NEGATIVE};
 use replay_text::line::{Line, field, number, start, word};
 
 // The line with the word of a status.
@@ -20,27 +19,14 @@ fn status_word(line: Line, status: u8) -> Line
     }
 }
 
-// The line with the sign of a number that is negative or not.
-fn sign(line: Line, negative: bool) -> Line
-    ensures { result ≡ added line (sign_text negative) }
+// The line with the sign of a runtime error of that magnitude.
+fn sign(line: Line, magnitude: u32) -> Line
+    ensures { result ≡ added line (sign_text magnitude) }
 {
-    if negative {
-        return word(line, b"-");
+    if magnitude == 0 {
+        return word(line, b"");
     }
-    word(line, b"")
-}
-
-// The magnitude of a delay as it stands in 16 bits; 0 past them, where no delay of a sound bench is.
-fn magnitude(delay: u32) -> u64
-    ensures { result ≡ magnitude delay }
-{
-    if delay < NEGATIVE {
-        return long32(delay);
-    }
-    if MAX_DELAY < delay {
-        return 0;
-    }
-    65536 - long32(delay)
+    word(line, b"-")
 }
 
 // The usage count: user holds, and runtime links from powered consumers.
@@ -50,8 +36,8 @@ fn usage(holds: u32, linked: u32) -> u64
     holds as u64 + linked as u64
 }
 
-// What is told of a device: its status, user holds, runtime links from powered consumers, powered children, disable depth, the
-// magnitude of its runtime error, its delay as it stands in 16 bits, last busy, and the flag of autosuspend.
+// What is told of a device: its status, user holds, runtime links from powered consumers, powered children, disable depth, and the
+// magnitude of its runtime error.
 #[derive(Drop)]
 pub struct Row {
     pub status: u8,
@@ -60,12 +46,9 @@ pub struct Row {
     pub children: u8,
     pub depth: u8,
     pub error: u32,
-    pub delay: u32,
-    pub busy: u32,
-    pub auto: u8,
 }
 
-// device P status S usage U children C holds H depth D error E delay T busy B auto F
+// device P status S usage U children C holds H depth D error E
 pub fn device(p: u8, row: Row) -> Line
     ensures { result ≡ line_of (row_text p row) }
 {
@@ -75,10 +58,6 @@ pub fn device(p: u8, row: Row) -> Line
     let counted = field(used, b" children ", long8(row.children));
     let held = field(counted, b" holds ", long32(row.holds));
     let disabled = field(held, b" depth ", long8(row.depth));
-    let signed = sign(word(disabled, b" error "), 0 < row.error);
-    let failed = number(signed, long32(row.error));
-    let late = sign(word(failed, b" delay "), NEGATIVE <= row.delay);
-    let delayed = number(late, magnitude(row.delay));
-    let marked = field(delayed, b" busy ", long32(row.busy));
-    word(field(marked, b" auto ", long8(row.auto)), b"\n")
+    let signed = sign(word(disabled, b" error "), row.error);
+    word(number(signed, long32(row.error)), b"\n")
 }

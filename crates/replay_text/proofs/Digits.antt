@@ -27,19 +27,6 @@ pub decimal_length : (n : ℕ) → length (decimal n) ≤ 20
 unfolding decimal
 decimal_length n = digits_length 20 n
 
-digits_below : (k f n : ℕ) → n < 10 ^ suc k → length (digits_up_to f n) ≤ suc k
-unfolding digits_up_to if◌then◌else◌
-digits_below k zero n h = omega arith
-digits_below zero (suc f) n h = let small : n < 10 = omega arith in rw (lt-ltb n 10 small) (omega arith)
-digits_below (suc k) (suc f) n h =
-    let e = pow-suc 10 (suc k) in
-    short_if (suc (suc k)) (ltb n 10) _ _ (omega arith) (simp length-append (omega (arith, digits_below k f (n / 10) (omega arith))))
-
--- a number below 10, 100, 1,000 and so on has as few digits as that says
-pub decimal_below : (k n : ℕ) → n < 10 ^ suc k → length (decimal n) ≤ suc k
-unfolding decimal
-decimal_below k n h = digits_below k 20 n h
-
 some : (k : ℕ) → 0 < 10 ^ k
 some zero = omega arith
 some (suc k) = let e = pow-suc 10 k in let i = some k in omega arith

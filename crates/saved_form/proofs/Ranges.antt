@@ -10,7 +10,7 @@ use Rattle.model.specs.State.{State, link_count, linked_of}
 use Rattle.model.specs.Table.{Wiring}
 use Rattle.model.specs.Sound.{Column, Sound}
 use Rattle.model.proofs.Counting.{count_low, long_linked, at_linked}
-use Rattle.memory.specs.Layout.{WORD, Cells, word_numbers, words_of}
+use Rattle.memory.specs.Layout.{WORD, Cells, words_of}
 
 -- ---- cells of joined lists and of columns
 append_below : {most : ℕ} (a b : List ℕ) → Cells most a → Cells most b → (i : ℕ) → get_or (a ++ b) i 0 < most
@@ -21,12 +21,12 @@ append_below (x ∷ a) b c d (suc i) = append_below a b (record { below = λ k. 
 append_cells : {most : ℕ} {a b : List ℕ} → Cells most a → Cells most b → Cells most (a ++ b)
 append_cells {most} {a} {b} c d = record { below = append_below a b c d }
 
-cons_cells : {most x : ℕ} {l : List ℕ} → x < most → Cells most l → Cells most (x ∷ l)
-cons_cells {most} {x} {l} h c = record { below = at }
+one_cell : {most x : ℕ} → x < most → Cells most (x ∷ [])
+one_cell {most} {x} l = record { below = at }
   where
-    at : (i : ℕ) → get_or (x ∷ l) i 0 < most
-    at zero = h
-    at (suc i) = c.below i
+    at : (i : ℕ) → get_or (x ∷ []) i 0 < most
+    at zero = l
+    at (suc i) = omega arith
 
 column_cells : {rows n most bound : ℕ} {col : List ℕ} → Column rows n most col → most < bound → Cells bound col
 column_cells {rows} {n} {most} {bound} {col} c l =
@@ -45,14 +45,9 @@ linked_low w status q =
     ]
 
 pub words_low : {s : State} → Sound s → Cells WORD (words_of s)
-unfolding words_of word_numbers LINKS
+unfolding words_of LINKS
 words_low {s} h =
     let k = h.kept in
     let m = k.table.order.links in
     let few : Cells WORD s.devices.linked = record { below = λ q. rw k.linked (let z = linked_low s.wiring s.devices.status q in omega arith) } in
-    let t = h.timed in
-    append_cells (column_cells k.holds (omega arith))
-    (append_cells (column_cells k.errors (omega arith))
-    (append_cells few
-    (append_cells (column_cells t.delays (omega arith))
-    (append_cells (column_cells t.busies (omega arith)) (cons_cells (omega arith) (column_cells t.clock (omega arith)))))))
+    append_cells (column_cells k.holds (omega arith)) (append_cells (column_cells k.errors (omega arith)) (append_cells few (one_cell (omega arith))))

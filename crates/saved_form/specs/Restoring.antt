@@ -1,38 +1,28 @@
 -- "Restoring refuses with the empty bench and a number, in this order: under 5 bytes 1, mark 2, version 3, length 5, anything else that is
--- no sound bench's form 21." A version is a table of spans. Assumes nothing.
+-- no sound bench's form 21." A version is a table of spans, so that a later version is another table. Assumes nothing.
 use Rattle.std.specs.Prelude.{Bool, true, false, not, List, [], ◌∷◌, ◌++◌, ℕ, ◌+◌, ◌*◌, length, get_or, take, drop, replicate, ltb, eqb}
-use Rattle.model.specs.Limits.{ROWS, LINKS}
-use Rattle.model.specs.Logic.{if◌then◌else◌, ◌and◌, ◌or◌}
+use Rattle.model.specs.Logic.{if◌then◌else◌, ◌and◌}
 use Rattle.model.specs.State.{State, empty_state}
 use Rattle.model.specs.SoundTest.{sound_test}
-use Rattle.memory.specs.Layout.{LINKPAGES, BYTENUMBERS, LINKSAT, WORDTAIL, BYTES, WORDS, area, state_in}
+use Rattle.memory.specs.Layout.{BYTES, WORDS, area, state_in}
 use Rattle.saved_form.specs.declared.Span.{Span}
 use Rattle.saved_form.specs.Words.{words_from}
-use Rattle.saved_form.specs.Form.{HEADER, Has, has1, has2}
+use Rattle.saved_form.specs.Form.{HEADER}
 
 -- ---- versions
--- the bytes after the device pages: links and numbers
-abbrev pub AFTERPAGES : ℕ
-AFTERPAGES = LINKS * LINKPAGES + BYTENUMBERS
-
--- the pages of bytes, the bytes after them, the pages of words, the words after them: each run stands in the form behind the one before,
--- and in the memory where it is today
-abbrev pub spans_of : Has → List Span
-spans_of h =
-    let pages = ROWS * h.byte_pages in
-    let words = ROWS * h.word_pages in
-    record { words = false; at = HEADER; cells = pages; to = 0 }
-    ∷ record { words = false; at = HEADER + pages; cells = AFTERPAGES; to = LINKSAT }
-    ∷ record { words = true; at = HEADER + pages + AFTERPAGES; cells = words; to = 0 }
-    ∷ record { words = true; at = HEADER + pages + AFTERPAGES + 4 * words; cells = h.word_numbers; to = WORDTAIL }
+-- all bytes, then all words
+abbrev pub version1 : List Span
+version1 =
+    record { words = false; at = HEADER; cells = BYTES; to = 0 }
+    ∷ record { words = true; at = HEADER + BYTES; cells = WORDS; to = 0 }
     ∷ []
 
 -- the spans of a version; a version that is not known has none
 unfoldable pub spans : ℕ → List Span
-spans v = if eqb v 1 then spans_of has1 else if eqb v 2 then spans_of has2 else []
+spans v = if eqb v 1 then version1 else []
 
 unfoldable pub known : ℕ → Bool
-known v = eqb v 1 or eqb v 2
+known v = eqb v 1
 
 -- how many bytes a span has in the form, and how long a form with these spans is
 unfoldable pub width : Span → ℕ

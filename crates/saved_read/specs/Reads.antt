@@ -4,7 +4,7 @@ use Rattle.model.specs.Logic.{if◌then◌else◌}
 use Rattle.memory.specs.Layout.{BYTES, WORDS}
 use Rattle.saved_answer.specs.Answers.{restoring_of}
 use Rattle.saved_form.specs.declared.Span.{Span}
-use Rattle.saved_form.specs.Restoring.{spans, width, cells_in, laid, bytes_by, words_by, version_in, head_answer}
+use Rattle.saved_form.specs.Restoring.{version1, spans, width, cells_in, laid, bytes_by, words_by, version_in, head_answer}
 use Rattle.saved_read.specs.declared.Cells.{Cells}
 
 -- the form has the span, and its array has room for it
@@ -25,15 +25,11 @@ pub record Filled (f : List ℕ) (ps : List Span) (bytes₀ words₀ bytes words
   pub in_bytes : bytes ≡ bytes_by f ps bytes₀
   pub in_words : words ≡ words_by f ps words₀
 
--- spans that fit every form of a length and the memory
-pub record Readable (long : ℕ) (ps : List Span) : Type 0 where
-  pub fits : (f bytes words : List ℕ) → length f ≡ long → length bytes ≡ BYTES → length words ≡ WORDS → AllFit f ps bytes words
-
--- by its spans, what a form of that length gives; zeros and 5 where it has another
-pub record CellsOf (long : ℕ) (ps : List Span) (f : List ℕ) (r : Cells) : Type 0 where
-  pub number : restoring_of r.answer ≡ (if eqb (length f) long then 0 else 5)
-  pub in_bytes : r.bytes ≡ (if eqb (length f) long then bytes_by f ps (replicate BYTES 0) else replicate BYTES 0)
-  pub in_words : r.words ≡ (if eqb (length f) long then words_by f ps (replicate WORDS 0) else replicate WORDS 0)
+-- taken, with the cells that a form of version 1 has
+pub record CellsOf (f : List ℕ) (r : Cells) : Type 0 where
+  pub number : restoring_of r.answer ≡ 0
+  pub in_bytes : r.bytes ≡ bytes_by f version1 (replicate BYTES 0)
+  pub in_words : r.words ≡ words_by f version1 (replicate WORDS 0)
 
 -- the answer to header and length, and the arrays: by the spans of the version, zeros where the bytes are refused
 pub record ReadIs (f : List ℕ) (r : Cells) : Type 0 where

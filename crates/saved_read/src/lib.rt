@@ -3,14 +3,14 @@
 ghost use Rattle.std.specs.Prelude.{◌≡◌, ◌+◌, ◌*◌, ◌≤◌, length, replicate};
 ghost use Rattle.memory.specs.Layout.{BYTES, WORDS, area};
 ghost use Rattle.saved_form.specs.Words.{words_from};
-ghost use Rattle.saved_form.specs.Form.{HEADER};
+ghost use Rattle.saved_form.specs.Form.{HEADER, FORM};
 ghost use Rattle.saved_form.specs.Restoring.{marked, version_in, laid};
-ghost use Rattle.saved_read.specs.Reads.{Fits, AllFit, Placed, Filled, Readable, CellsOf, ReadIs};
+ghost use Rattle.saved_read.specs.Reads.{Fits, AllFit, Placed, Filled, CellsOf, ReadIs};
 
 use basics::word8;
 use memory::{BYTES, WORDS};
 use saved_answer::Restoring;
-use saved_form::{FORM, FORM1, HEADER, SPANS, Span, VERSION1, VERSION2};
+use saved_form::{FORM, HEADER, SPANS, Span, VERSION1};
 
 // What reading gives: refused, or taken; and the two arrays, zeros where the bytes are refused.
 #[derive(Drop)]
@@ -102,18 +102,15 @@ fn refused(answer: Restoring) -> Cells
     }
 }
 
-// The cells of a form that has the length of its version (else 5), by the version's spans; what no span has is 0.
-fn cells_of(f: &[u8], long: usize, spans: [Span; SPANS]) -> Cells
-    requires { Readable long spans }
-    ensures { CellsOf long spans f.now result }
+// The cells of a form of version 1 that has its length; what no span has is 0.
+fn cells_of(f: &[u8]) -> Cells
+    requires { length f.now ≡ FORM }
+    ensures { CellsOf f.now result }
 {
-    if f.len() != long {
-        return refused(Restoring::Length);
-    }
     let fresh = refused(Restoring::Taken);
     let mut bytes = fresh.bytes;
     let mut words = fresh.words;
-    fill(f, spans, &mut bytes, &mut words);
+    fill(f, VERSION1, &mut bytes, &mut words);
     Cells {
         answer: Restoring::Taken,
         bytes: bytes,
@@ -131,9 +128,11 @@ pub fn read(f: &[u8]) -> Cells
     if !is_marked(f) {
         return refused(Restoring::Mark);
     }
-    match version_in(f) {
-        1 => cells_of(f, FORM1, VERSION1),
-        2 => cells_of(f, FORM, VERSION2),
-        _ => refused(Restoring::Version),
+    if version_in(f) != 1 {
+        return refused(Restoring::Version);
     }
+    if f.len() != FORM {
+        return refused(Restoring::Length);
+    }
+    cells_of(f)
 }

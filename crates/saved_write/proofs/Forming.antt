@@ -12,7 +12,7 @@ use Rattle.model.specs.Feed.{over}
 use Rattle.memory.specs.Layout.{BYTES, WORDS, state_in}
 use Rattle.memory.proofs.Inverse.{bytes_of_lem, words_of_lem}
 use Rattle.saved_form.specs.Words.{word_bytes}
-use Rattle.saved_form.specs.Form.{NEWEST, HEADER, FORM, header, form}
+use Rattle.saved_form.specs.Form.{HEADER, FORM, header, form}
 use Rattle.saved_form.specs.Restoring.{laid}
 use Rattle.saved_form.proofs.Words.{bytes_count}
 use Rattle.saved_copy.proofs.Parts.{part_long, laid_part}
@@ -44,34 +44,30 @@ unfolding laid
 onto a d s at n e f =
     rw (take_at a (drop at d) at e, f, ← drop-drop n at (a ++ drop at d), drop_at a (drop at d) at e, drop-drop n at d) (sym (append_assoc a s (drop (at + n) d)))
 
--- the header that is written
-abbrev newest : List ℕ
-newest = header NEWEST
-
-header_long : length newest ≡ HEADER
+header_long : length header ≡ HEADER
 unfolding header
 header_long = refl
 
-headed : (d : List ℕ) → laid d 0 newest ≡ newest ++ drop HEADER d
+headed : (d : List ℕ) → laid d 0 header ≡ header ++ drop HEADER d
 unfolding laid header
 headed d = refl
 
 -- the form of the state in two arrays, from the arrays themselves
-abbrev form_of : List ℕ → List ℕ → List ℕ
-form_of bytes words = newest ++ (bytes ++ word_bytes words)
+abbrev form_in : List ℕ → List ℕ → List ℕ
+form_in bytes words = header ++ (bytes ++ word_bytes words)
 
 module _ (bytes words d : List ℕ) (b : length bytes ≡ BYTES) (w : length words ≡ WORDS) where
-  pub formed : {x y z : List ℕ} → x ≡ laid d 0 newest → y ≡ laid x HEADER bytes → z ≡ laid y (HEADER + BYTES) (word_bytes words) → z ≡ over (form (state_in bytes words)) d
+  pub formed : {x y z : List ℕ} → x ≡ laid d 0 header → y ≡ laid x HEADER bytes → z ≡ laid y (HEADER + BYTES) (word_bytes words) → z ≡ over (form (state_in bytes words)) d
   unfolding form
   formed {x} {y} {z} f g h =
       let n : length (word_bytes words) ≡ 4 * WORDS = bytes_count words ∙ ap (λ (k : ℕ). 4 * k) w in
       let k = header_long in
-      let l : length (newest ++ bytes) ≡ HEADER + BYTES = length-append newest bytes ∙ omega arith in
-      let first : y ≡ (newest ++ bytes) ++ drop (HEADER + BYTES) d = g ∙ rw (f, headed d) (onto newest d bytes HEADER BYTES k b) in
-      let rest = onto (newest ++ bytes) d (word_bytes words) (HEADER + BYTES) (4 * WORDS) l n in
-      let long : length (form_of bytes words) ≡ HEADER + BYTES + 4 * WORDS =
-      length-append newest (bytes ++ word_bytes words) ∙ (let q = length-append bytes (word_bytes words) in omega arith) in
-      rw (bytes_of_lem bytes words b, words_of_lem bytes words w) (h ∙ rw (first, rest, append_assoc newest bytes (word_bytes words), long))
+      let l : length (header ++ bytes) ≡ HEADER + BYTES = length-append header bytes ∙ omega arith in
+      let first : y ≡ (header ++ bytes) ++ drop (HEADER + BYTES) d = g ∙ rw (f, headed d) (onto header d bytes HEADER BYTES k b) in
+      let rest = onto (header ++ bytes) d (word_bytes words) (HEADER + BYTES) (4 * WORDS) l n in
+      let long : length (form_in bytes words) ≡ HEADER + BYTES + 4 * WORDS =
+      length-append header (bytes ++ word_bytes words) ∙ (let q = length-append bytes (word_bytes words) in omega arith) in
+      rw (bytes_of_lem bytes words b, words_of_lem bytes words w) (h ∙ rw (first, rest, append_assoc header bytes (word_bytes words), long))
 
 -- ---- what writing answers
 pub no_room : {bytes words out : List ℕ} → length out < FORM → WriteIs bytes words out false out

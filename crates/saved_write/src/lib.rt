@@ -8,7 +8,7 @@ use memory::{BYTES, WORDS};
 use saved_form::{FORM, HEADER};
 
 // "TWS", and the version that is saved.
-const HEAD: [u8; HEADER] = [84, 87, 83, 2, 0];
+const HEAD: [u8; HEADER] = [84, 87, 83, 1, 0];
 
 const WORDSAT: usize = HEADER + BYTES;
 

@@ -1,5 +1,5 @@
-// The soundness test of a bench, whole ("A bench is sound exactly when ..", document 01): the columns by `sound_columns` and `sound_times`,
-// then the carried bytes and the open callback.
+// The soundness test of a bench, whole ("A bench is sound exactly when ..", document 01): the columns by `sound_columns`, then the carried
+// bytes and the open callback.
 ghost use Rattle.std.specs.Prelude.{◌≡◌, ◌<◌};
 ghost use Rattle.model.specs.SoundTest.{carried_test, steady_test, all_steady, others_steady, none_test, suspend_open_test};
 ghost use Rattle.model.specs.SoundTest.{idle_open_test, callback_test, sound_test};
@@ -171,8 +171,7 @@ pub fn sound_by<'a>(
     if !sound_columns::well_kept(bytes, words) {
         return false;
     }
-    let rest = both(carried_good(bytes), callback_good(bytes, words, first));
-    both(sound_times::well_timed(bytes, words), rest)
+    both(carried_good(bytes), callback_good(bytes, words, first))
 }
 
 // The bench is sound.

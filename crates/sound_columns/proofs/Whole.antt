@@ -12,6 +12,9 @@ use Rattle.model.specs.SoundTest.{column_test, same_test, parent_supplies, link_
 use Rattle.sound_rules.specs.Parts.{parent_fits, ends_fit}
 use Rattle.sound_columns.specs.Parts.{ascends_in, wiring_test, devices_test}
 
+pub column_of : (rows most : ℕ) {a : Bool} {n k : ℕ} {x y : List ℕ} → x ≡ y → n ≡ k → a ≡ column_test rows n most x → a ≡ column_test rows k most y
+column_of rows most e f h = rw (e, f) at h
+
 pub same_of : {a : Bool} {x y p q : List ℕ} → x ≡ p → y ≡ q → a ≡ same_test x y → a ≡ same_test p q
 same_of e f h = rw (e, f) at h
 

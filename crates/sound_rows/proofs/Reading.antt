@@ -57,7 +57,3 @@ column_cut rows n most col short =
           rw q (elim (dec_lt p rows) [ yes y ↦ (f p y).0 (omega arith) | no g ↦ let z = get_or-eq_default col 0 {n = p} (omega arith) in omega arith ]),
       λ p l. let z = (f (n + p) (omega arith)).1 (omega arith) in omega arith,
     ))
-
--- the test of a column, by what its page and its count are in the state
-pub column_of : (rows most : ℕ) {a : Bool} {n k : ℕ} {x y : List ℕ} → x ≡ y → n ≡ k → a ≡ column_test rows n most x → a ≡ column_test rows k most y
-column_of rows most e f h = rw (e, f) at h

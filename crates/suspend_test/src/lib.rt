@@ -1,14 +1,13 @@
 // The suspend test, and the use count that it reads.
 ghost use Rattle.std.specs.Prelude.{◌≡◌, List, ℕ, ◌+◌};
-ghost use Rattle.model.specs.Requests.{kept_on, suspend_test};
+ghost use Rattle.model.specs.Requests.{suspend_test};
 ghost use Rattle.memory.specs.Layout.{state_in};
 ghost use Rattle.suspend_test.specs.Parts.{has_children};
 
 use basics::{both, choose};
 use memory::{BYTES, WORDS};
 use memory_rows::{children, depth, error, holds, ignore, linked};
-use memory_timers::{auto, delay};
-use model::{EACCES, EAGAIN, EBUSY, EINVAL, NEGATIVE};
+use model::{EACCES, EAGAIN, EBUSY, EINVAL};
 
 // The use count of user holds and links: up to 32,767 and as many as there are links, so more than 16 signed bits hold.
 pub fn usage(holds: u32, linked: u32) -> u64
@@ -24,20 +23,12 @@ fn has_children<'a>(bytes: &'a [u8; BYTES], p: u8) -> bool
     both(0 < children(bytes, p), ignore(bytes, p) == 0)
 }
 
-// Device p uses autosuspend with a negative delay: it is not to be suspended.
-fn kept_on<'a>(bytes: &'a [u8; BYTES], words: &'a [u32; WORDS], p: u8) -> bool
-    ensures { result ≡ kept_on (state_in bytes.now words.now) p }
-{
-    both(0 < auto(bytes, p), NEGATIVE <= delay(words, p))
-}
-
 // The suspend test of device p: its code, 0 where it is passed. All that it reads is read first, and the code then chosen, the last test
 // first: which test fails is hard to foresee, and a branch for each would cost more than the reading.
 pub fn suspend_test<'a>(bytes: &'a [u8; BYTES], words: &'a [u32; WORDS], p: u8) -> u16
     ensures { result ≡ suspend_test (state_in bytes.now words.now) p }
 {
-    let kept = choose(kept_on(bytes, words, p), EAGAIN, 0);
-    let needed = choose(has_children(bytes, p), EBUSY, kept);
+    let needed = choose(has_children(bytes, p), EBUSY, 0);
     let used = choose(0 < usage(holds(words, p), linked(words, p)), EAGAIN, needed);
     let off = choose(0 < depth(bytes, p), EACCES, used);
     choose(0 < error(words, p), EINVAL, off)

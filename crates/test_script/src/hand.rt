@@ -33,8 +33,8 @@ fn set_whole(bytes: &mut [u8; BYTES], k: usize, line: &[u8]) {
     let b = byte_in(line, 3);
     let c = byte_in(line, 4);
     match k {
-        9 => memory::set_devices(bytes, b),
-        10 => memory::set_callback(bytes, a, b, c),
+        8 => memory::set_devices(bytes, b),
+        9 => memory::set_callback(bytes, a, b, c),
         _ => memory::set_carried(bytes, [b, c, byte_in(line, 5)], a),
     }
 }
@@ -44,25 +44,19 @@ fn set_byte(bytes: &mut [u8; BYTES], k: usize, line: &[u8]) {
     let row = number_in(line, 2) as usize;
     let x = byte_in(line, 3);
     match k {
-        0..=5 => memory::set_byte_at(bytes, k, row, x),
-        6..=8 => memory::set_link_at(bytes, k - 6, row, x),
+        0..=4 => memory::set_byte_at(bytes, k, row, x),
+        5..=7 => memory::set_link_at(bytes, k - 5, row, x),
         _ => set_whole(bytes, k, line),
     }
 }
 
-// Words 3 and 4 of a line as a number of 32 bits, the low half first.
-fn word_in(line: &[u8]) -> u32 {
-    number_in(line, 3) % 65536 + 65536 * (number_in(line, 4) % 65536)
-}
-
-// A cell of the words: of a device column, the number of links, or the clock.
+// A cell of the words: of a device column, or the number of links.
 fn set_word(words: &mut [u32; WORDS], k: usize, line: &[u8]) {
     let row = number_in(line, 2) as usize;
-    let v = word_in(line);
+    let v = number_in(line, 3);
     match k {
-        12..=16 => memory::set_word_at(words, k - 12, row, v),
-        17 => memory::set_links(words, v),
-        18 => memory::set_clock(words, v),
+        11..=13 => memory::set_word_at(words, k - 11, row, v),
+        14 => memory::set_links(words, v),
         _ => say(texts::NO_FIELD),
     }
 }
@@ -72,11 +66,11 @@ pub fn set(b: Bench, line: &[u8]) -> Bench {
     let mut bytes = b.bytes;
     let mut words = b.words;
     let k = name_in(
-        b"parent ignore status depth children auto consumer supplier flags n callback carried holds error linked delay busy m clock",
+        b"parent ignore status depth children consumer supplier flags n callback carried holds error linked m",
         line,
         1,
     );
-    if k < 12 {
+    if k < 11 {
         set_byte(&mut bytes, k, line);
     } else {
         set_word(&mut words, k, line);

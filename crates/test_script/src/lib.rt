@@ -7,17 +7,14 @@
 //                          suspend, wake, setactive and setsuspended
 //   ignore DEVICE VALUE    kind 12; VALUE is 0 where there is none
 //   result DEVICE VALUE    kind 13
-//   tick DEVICE VALUE      kind 14; so are setdelay, kind 16, and useauto, kind 17
-//   markbusy DEVICE        kind 15; so is autosuspend, kind 18
 //   record BYTES           one record of four bytes, the same way
 //   feed ROOM BYTES        a piece, with so many bytes of buffer for its replies
 //   state DEVICE           the state of a device
-//   ask QUESTION DEVICE    status, holds, usage, children, above, delay, busy or auto
-//   ask clock              the clock
+//   ask QUESTION DEVICE    status, holds, usage, children or above
 //   ask wake DEVICE OTHER  whether the other device is in the device's wake set
 //   wakes DEVICE           the wake set
-//   set FIELD ROW VALUE    a cell changed by hand, where another number follows to VALUE plus 65,536 times that number; `set callback` has
-//                          a kind, the device asked and the target, `set carried` how many bytes are carried and those
+//   set FIELD ROW VALUE    a cell changed by hand; `set callback` has a kind, the device asked and the target, `set carried` how many
+//                          bytes are carried and those
 //   save NAME, back NAME   keep the bench and the replies since the table, and return to them
 //   same NAME              whether the bench, and the replies since the table, are those that were kept
 //
@@ -120,9 +117,9 @@ fn set(play: Play, line: &[u8]) -> Play {
 fn told(play: Play, k: usize, line: &[u8]) -> Play {
     let bench = play.bench;
     match k {
-        24 => tell::state(bench, hand::byte_in(line, 1)),
-        25 => tell::ask(bench, line),
-        26 => tell::wakes(bench, hand::byte_in(line, 1)),
+        19 => tell::state(bench, hand::byte_in(line, 1)),
+        20 => tell::ask(bench, line),
+        21 => tell::wakes(bench, hand::byte_in(line, 1)),
         _ => say(texts::NO_COMMAND),
     }
     play
@@ -131,12 +128,12 @@ fn told(play: Play, k: usize, line: &[u8]) -> Play {
 // The commands on one bench, with the bytes that stand in the line.
 fn done(play: Play, k: usize, line: &[u8], s: &[u8]) -> Play {
     match k {
-        1..=18 => record::named(play, k, line),
-        19 => record::raw(play, s),
-        20 => piece::feed(play, test_words::number_in(line, 1), s),
-        21 => fresh(tell::table(s)),
-        22 => fresh(keeper::empty()),
-        23 => set(play, line),
+        1..=13 => record::named(play, k, line),
+        14 => record::raw(play, s),
+        15 => piece::feed(play, test_words::number_in(line, 1), s),
+        16 => fresh(tell::table(s)),
+        17 => fresh(keeper::empty()),
+        18 => set(play, line),
         _ => told(play, k, line),
     }
 }
@@ -155,9 +152,9 @@ fn read(count: usize) -> usize
 // not done where they cannot be read.
 fn act(play: Play, k: usize, line: &[u8]) -> Play {
     let mut s = io::large_buffer();
-    let from = pick(k == FEED, 2, 1);
+    let from = pick(k == 15, 2, 1);
     let count = test_words::bytes_in(line, from, &mut s);
-    if (65536 < count) & (18 < k) & (k < 22) {
+    if (65536 < count) & (13 < k) & (k < 17) {
         say(texts::NO_BYTES);
         return play;
     }
@@ -165,38 +162,24 @@ fn act(play: Play, k: usize, line: &[u8]) -> Play {
     done(play, k, line, &s[0..n])
 }
 
-// The first command that is not named by a kind, the one with a buffer, and the one that keeps a bench.
-const RECORD: usize = 19;
+const SAVE: usize = 22;
 
-const FEED: usize = 20;
-
-const SAVE: usize = 27;
-
-// Which command a line is. The kinds of records are numbered by their names; the other commands follow.
+// Which command a line is. The kinds of records are numbered by their names.
 fn number(line: &[u8]) -> usize {
-    let kind = name_in(
-        b"- enable disable get getwake put putidle idle suspend wake setactive setsuspended ignore result tick markbusy setdelay useauto autosuspend",
+    name_in(
+        b"- enable disable get getwake put putidle idle suspend wake setactive setsuspended ignore result record feed table empty set state ask wakes save back same",
         line,
         0,
-    );
-    if kind < RECORD {
-        return kind;
-    }
-    RECORD
-        + name_in(
-            b"record feed table empty set state ask wakes save back same",
-            line,
-            0,
-        )
+    )
 }
 
 // A line that is a command.
 fn command(play: Play, slots: Slots, line: &[u8]) -> Play {
     let k = number(line);
     match k {
-        27 => kept_name(play, line),
-        28 => kept(play, slots, line),
-        29 => compare(play, kept(play, slots, line)),
+        22 => kept_name(play, line),
+        23 => kept(play, slots, line),
+        24 => compare(play, kept(play, slots, line)),
         _ => act(play, k, line),
     }
 }

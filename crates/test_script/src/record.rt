@@ -7,20 +7,12 @@ use keeper_bench::methods::{Outcome, Requested};
 use record_kinds::Record;
 use test_words::{byte_at, number_in};
 
-// The method of a kind does not take such a device or value: a tick names no device, and most kinds have no value.
-fn beyond(kind: u8, p: u8, v: u16) -> bool {
-    if kind == 14 {
-        return p != 0;
-    }
-    (v != 0) & ((kind < 12) | (kind == 15) | (kind == 18))
-}
-
-// By the method of its kind. A kind that has no method, or what its method does not take, goes to the dispatch.
+// By the method of its kind. A kind that has no method, or a value that its method does not take, goes to the dispatch.
 fn requested(b: Bench, r: Record) -> Requested {
     let kind = r.kind;
     let p = r.device;
     let v = r.value;
-    if beyond(kind, p, v) {
+    if (v != 0) & (kind < 12) {
         return hand::dispatched(b, r);
     }
     match kind {
@@ -37,11 +29,6 @@ fn requested(b: Bench, r: Record) -> Requested {
         11 => b.set_suspended(p),
         12 => b.ignore_children(p, v),
         13 => b.result(p, v),
-        14 => b.tick(v),
-        15 => b.mark_busy(p),
-        16 => b.set_delay(p, v),
-        17 => b.use_autosuspend(p, v),
-        18 => b.autosuspend(p),
         _ => hand::dispatched(b, r),
     }
 }

@@ -6,7 +6,7 @@ use keeper_bench::Bench;
 use memory::{BYTES, WORDS};
 
 // An answer from here on is a refusal: its number is what is over.
-pub const REFUSAL: u64 = 4294967296;
+pub const REFUSAL: u32 = 65536;
 
 // The place of no names.
 pub const NUMBER: usize = 0;
@@ -53,22 +53,22 @@ pub fn four(x: u32) {
 }
 
 // The answer to a question, by its number: a refusal's above REFUSAL, or what is told.
-pub fn told(code: u64) -> u64 {
-    let number = code % 256;
+pub fn told(code: u64) -> u32 {
+    let number = (code % 256) as u32;
     if number != 0 {
         return REFUSAL + number;
     }
-    code / 256 % REFUSAL
+    (code / 256 % 4294967296) as u32
 }
 
 // An answer: the number of the refusal, or what was asked for, by name where there are names.
-pub fn answer(names: usize, x: u64) {
+pub fn answer(names: usize, x: u32) {
     if REFUSAL <= x {
-        field(texts::NOT_TOLD, x - REFUSAL);
+        field(texts::NOT_TOLD, (x - REFUSAL) as u64);
         return;
     }
     if names == NUMBER {
-        field(texts::BLANK, x);
+        field(texts::BLANK, x as u64);
         return;
     }
     say(names % 128 + (x % 4) as usize);
@@ -91,35 +91,7 @@ fn callback(kind: u8, asked: u8, target: u8) {
     field(texts::FOR, target as u64);
 }
 
-// A text and a number, where it is not 0.
-fn some(k: usize, x: u32) {
-    if x != 0 {
-        field(k, x as u64);
-    }
-}
-
-// A delay, which is signed.
-fn delay(x: u32) {
-    if x < 32768 {
-        some(texts::DELAY, x);
-        return;
-    }
-    if 65535 < x {
-        some(texts::DELAY, x);
-        return;
-    }
-    field(texts::NEGATIVE_DELAY, (65536 - x) as u64);
-}
-
-// The delay, last busy and the flag of device p, and the clock.
-fn timers<'a>(bytes: &'a [u8; BYTES], words: &'a [u32; WORDS], p: u8) {
-    delay(memory_timers::delay(words, p));
-    some(texts::BUSY, memory_timers::busy(words, p));
-    some(texts::AUTO, memory_timers::auto(bytes, p) as u32);
-    some(texts::CLOCK, memory::clock(words));
-}
-
-// The cells of device p that no question tells, those of autosuspend, and the open callback.
+// The cells of device p that no question tells, and the open callback.
 fn cells<'a>(bytes: &'a [u8; BYTES], words: &'a [u32; WORDS], p: u8) {
     let error = memory_rows::error(words, p);
     field(texts::DEPTH, memory_rows::depth(bytes, p) as u64);
@@ -132,7 +104,6 @@ fn cells<'a>(bytes: &'a [u8; BYTES], words: &'a [u32; WORDS], p: u8) {
         texts::NOTHING,
         texts::IGNORES,
     ));
-    timers(bytes, words, p);
     callback(
         memory::callback(bytes),
         memory::asked(bytes),

@@ -40,27 +40,20 @@ pub fn state(b: Bench, p: u8) {
     show::state(b, p);
 }
 
-// The last question.
-const WAKE: usize = 9;
-
 // Question k about device p: the answer as a number.
-fn asked(b: Bench, k: usize, p: u8, q: u8) -> u64 {
+fn asked(b: Bench, k: usize, p: u8, q: u8) -> u32 {
     match k {
         0 => show::told(keeper_answers::status_code(keeper_questions::status_of(b, p))),
         1 => show::told(keeper_answers::number_code(keeper_questions::user_holds(b, p))),
         2 => show::told(keeper_answers::number_code(keeper_questions::usage_count(b, p))),
         3 => show::told(keeper_answers::number_code(keeper_questions::child_count(b, p))),
         4 => show::told(keeper_answers::number_code(keeper_questions::parents_above(b, p))),
-        5 => show::told(keeper_answers::number_code(keeper_timers::autosuspend_delay(b, p))),
-        6 => show::told(keeper_answers::number_code(keeper_timers::last_busy(b, p))),
-        7 => show::told(keeper_answers::number_code(keeper_timers::uses_autosuspend(b, p))),
-        8 => show::told(keeper_answers::number_code(keeper_timers::clock(b))),
         _ => wakes_with(b, p, q),
     }
 }
 
 // Whether the recursion has another word on q than the answer, 0 or 1; a refused question has none.
-fn recursion_differs(b: Bench, p: u8, q: u8, told: u64) -> bool {
+fn recursion_differs(b: Bench, p: u8, q: u8, told: u32) -> bool {
     let first = links::index(&b.bytes, &b.words);
     let marks = wakeset_recursion::wake_set(&b.bytes, &first, p);
     let marked = marks[q as usize];
@@ -68,7 +61,7 @@ fn recursion_differs(b: Bench, p: u8, q: u8, told: u64) -> bool {
 }
 
 // Whether q is in the wake set of p, by the question; the recursion is asked beside it.
-fn wakes_with(b: Bench, p: u8, q: u8) -> u64 {
+fn wakes_with(b: Bench, p: u8, q: u8) -> u32 {
     let told = show::told(keeper_answers::member_code(keeper_questions::in_wake_set(b, p, q)));
     let other = recursion_differs(b, p, q, told);
     say(pick(other, texts::OTHER_WAY, texts::NOTHING));
@@ -77,16 +70,12 @@ fn wakes_with(b: Bench, p: u8, q: u8) -> u64 {
 
 // A question.
 pub fn ask(b: Bench, line: &[u8]) {
-    let k = name_in(
-        b"status holds usage children above delay busy auto clock wake",
-        line,
-        1,
-    );
-    if WAKE < k {
+    let k = name_in(b"status holds usage children above wake", line, 1);
+    if 5 < k {
         say(texts::NO_QUESTION);
         return;
     }
-    let names = pick(k == WAKE, texts::NO, show::NUMBER);
+    let names = pick(k == 5, texts::NO, show::NUMBER);
     say(texts::ANSWER);
     show::answer(
         pick(k == 0, texts::SUSPENDED, names),
@@ -95,7 +84,7 @@ pub fn ask(b: Bench, line: &[u8]) {
 }
 
 // Device q, where an answer says that it is a member.
-fn member(x: u64, q: u8) {
+fn member(x: u32, q: u8) {
     if x == 1 {
         show::field(texts::BLANK, q as u64);
     }
@@ -107,7 +96,7 @@ pub fn wakes(b: Bench, p: u8) {
     let mut q: u8 = 0;
     say(texts::ANSWER);
     while q < n {
-        member(asked(b, WAKE, p, q), q);
+        member(asked(b, 5, p, q), q);
         q += 1;
     }
 }

@@ -15,7 +15,6 @@ pub fn say(k: usize) {
             b": device \n; device \n usage\n children\n holds\n depth \n error \n error -\n ignores children\n, open\n of \n for \n:\n refused \n \n none\n suspend\n resume\n idle\n suspended\n resuming\n active\n suspending\n no\n yes\n RECURSION DIFFERS",
             k % 32,
         ),
-        3 => nth(b" delay \n delay -\n busy \n auto \n, clock ", k % 32),
         _ => nth(b"0\n1\n2\n3\n4\n5\n6\n7\n8\n9\nA\nB\nC\nD\nE\nF", k % 32),
     }
 }
@@ -121,19 +120,8 @@ pub const NO: usize = 87;
 
 pub const OTHER_WAY: usize = 89;
 
-// Autosuspend.
-pub const DELAY: usize = 96;
-
-pub const NEGATIVE_DELAY: usize = 97;
-
-pub const BUSY: usize = 98;
-
-pub const AUTO: usize = 99;
-
-pub const CLOCK: usize = 100;
-
 // Hexadecimal digits.
-pub const DIGIT: usize = 128;
+pub const DIGIT: usize = 96;
 
 // None.
 pub const NOTHING: usize = 31;

@@ -1,6 +1,4 @@
-//! How often each answer was met, beside the answers that document 01, with requests Three and Six, gives to each kind of record.
-
-use crate::timed::Timed;
+//! How often each answer was met, beside the answers that document 01, with request Three, gives to each kind of record.
 
 use second::{
     Bench, FINISHED, IDLE_CALLBACK, MAX_HOLDS, NO_CALLBACK, REFUSED, RESUME_CALLBACK, SUSPENDED,
@@ -40,7 +38,7 @@ const REFUSALS: usize = CODES.len() + 4;
 
 /// Document 01: the answers to each kind; for results by the callback that is
 /// open, and for resume by whether the device asked is the one requested.
-const GIVEN: [(&str, &[&str]); 23] = [
+const GIVEN: [(&str, &[&str]); 18] = [
     ("other kinds", &["refused 11"]),
     ("kind 1", &["0", "-75"]),
     ("kind 2", &["0", "-75"]),
@@ -68,19 +66,9 @@ const GIVEN: [(&str, &[&str]); 23] = [
         "kind 13 idle",
         &["-11", "-13", "-16", "-22", "-75", "-115", "other", "ask 1"],
     ),
-    ("kind 14", &["0", "-75"]),
-    ("kind 15", &["0"]),
-    ("kind 16", &["0"]),
-    ("kind 17", &["0"]),
-    ("kind 18", &["1", "-11", "-13", "-16", "-22", "ask 1"]),
 ];
 
-/// The rows of kinds 14 to 18 stand behind those of the results.
-const LATER: usize = 4;
-const TICK: usize = 14 + LATER;
-const SET_DELAY: usize = 16 + LATER;
-
-/// Document 01: well-formed records but results and ticks are answered so while a callback is open.
+/// Document 01: well-formed records but results are answered so while a callback is open.
 const BUSY: &str = "-115";
 
 /// What a device may be whose put and idle ends with 0.
@@ -96,15 +84,12 @@ pub struct Tally {
     beyond: u64,
     /// The greatest use count of a device that a suspend test was asked of.
     most_used: u32,
-    /// What the clock and the delays had to do with the answers.
-    timed: Timed,
 }
 
 impl Tally {
     /// One record on a bench, and its reply.
     pub fn add(&mut self, before: &Bench, record: [u8; 4], reply: [u8; 4]) {
         self.answers[row(before, record)][class(reply)] += 1;
-        self.timed.add(before, record, reply);
         let [kind, device, ..] = record;
         if (6..=8).contains(&kind) && before.callback == NO_CALLBACK && reply[0] != REFUSED {
             let put = u32::from(kind == 6);
@@ -145,10 +130,7 @@ impl Tally {
         if benches >= ENOUGH && self.beyond == 0 {
             return Err(format!("use count beyond {MAX_HOLDS}: never met"));
         }
-        match self.timed.never() {
-            Some(never) if benches >= ENOUGH => Err(format!("{never}: never met")),
-            _ => Ok(()),
-        }
+        Ok(())
     }
 
     pub fn most_used(&self) -> u32 {
@@ -165,7 +147,6 @@ impl Tally {
         for (name, count) in SPARED.iter().zip(self.spared) {
             line += &format!(", put and idle of a device {name}: {count}");
         }
-        line += &self.timed.words();
         for (class, name) in CLASSES.iter().enumerate().skip(REFUSALS).take(5) {
             let count: u64 = self.answers.iter().map(|counts| counts[class]).sum();
             line += &format!(", {name}: {count}");
@@ -186,7 +167,6 @@ fn row(before: &Bench, record: [u8; 4]) -> usize {
     let own = before.asked == before.target;
     match (record[0], before.callback) {
         (kind @ 1..=12, _) => usize::from(kind),
-        (kind @ 14..=18, _) => usize::from(kind) + LATER,
         (13, NO_CALLBACK) => 13,
         (13, SUSPEND_CALLBACK) => 14,
         (13, RESUME_CALLBACK) => 15 + usize::from(!own),
@@ -213,9 +193,8 @@ fn class(reply: [u8; 4]) -> usize {
 fn given(row: usize, class: usize) -> bool {
     let (_, answers) = GIVEN[row];
     let class = CLASSES[class];
-    let unknown = row > 0 && class == "refused 12";
-    let beyond = row > 0 && row != SET_DELAY && class == "refused 13";
-    let busy = ((1..=12).contains(&row) || row > TICK) && class == BUSY;
-    let not_asked = (14..TICK).contains(&row) && class == "refused 15";
-    answers.contains(&class) || unknown || beyond || busy || not_asked
+    let refused = row > 0 && ["refused 12", "refused 13"].contains(&class);
+    let busy = (1..=12).contains(&row) && class == BUSY;
+    let not_asked = row > 13 && class == "refused 15";
+    answers.contains(&class) || refused || busy || not_asked
 }

@@ -1,7 +1,6 @@
 //! The calls of a C host: what each answers and leaves is what the keeper's own functions and the
 //! second implementation make of the same bytes.
 
-use crate::c_tally::{CLOCK, WAKE_SET};
 use crate::keeper::Memory;
 use crate::lent::{Buffer, Lent};
 use crate::saved::same_bytes;
@@ -246,8 +245,8 @@ fn own_feed(state: &mut [u8], piece: &[u8], replies: &mut [u8]) -> i32 {
 }
 
 /// The numbers of the questions in the keeper's own function, by those of a C host: status, use
-/// count, child count, user holds, wake set, parents above, delay, flag, last busy and clock.
-const OWN: [u8; 12] = [0, 2, 3, 1, 9, 4, 5, 7, 6, 6, 8, 8];
+/// count, child count, user holds, wake set, parents above.
+const OWN: [u8; 6] = [0, 2, 3, 1, 5, 4];
 
 /// The keeper's own functions have parts of one byte, and no unknown questions.
 fn own_ask(memory: Option<&Memory>, [question, part, second]: Question) -> i32 {
@@ -255,22 +254,12 @@ fn own_ask(memory: Option<&Memory>, [question, part, second]: Question) -> i32 {
         return -21;
     };
     let own = OWN.get(question as usize);
-    let second = if question == WAKE_SET { second } else { 0 };
-    let part = if CLOCK.contains(&question) { 0 } else { part };
+    let second = if question == 4 { second } else { 0 };
     let (Some(&own), Ok(part), Ok(second)) = (own, part.try_into(), second.try_into()) else {
         return -24;
     };
     match memory.ask(own, part, second) {
         code if code % 256 != 0 => -((code % 256) as i32),
-        code => half(question, code / 256) as i32,
-    }
-}
-
-/// Last busy and the clock are answered in two halves, the low one first.
-fn half(question: u32, told: u64) -> u64 {
-    match question {
-        8 | 10 => told % 65_536,
-        9 | 11 => told / 65_536,
-        _ => told,
+        code => (code / 256) as i32,
     }
 }

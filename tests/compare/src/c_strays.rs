@@ -8,7 +8,7 @@ use crate::lent::Buffer;
 use second::generate::damage::damaged;
 use second::generate::random::Random;
 use second::generate::tables;
-use second::{Bench, FORM, OLD_FORM};
+use second::{Bench, FORM};
 
 /// How many questions are asked of each stray state.
 const ASKED: usize = 4;
@@ -62,8 +62,20 @@ impl Host<'_> {
             states.push(Buffer::of(&long[..65_536 + small]));
             states.push(Buffer::of(&long));
         }
-        states.extend(self.other_headers(form));
-        states.extend(self.old_states(kept));
+        // Each byte of the header, and versions.
+        let mut headers: Vec<Vec<u8>> = Vec::new();
+        for at in 0..5 {
+            let mut header = form[..5].to_vec();
+            header[at] ^= self.random.from_to(1, 255) as u8;
+            headers.push(header);
+        }
+        for version in [0_u16, 2, 3, 256, 257, 511, 65_535] {
+            headers.push([&form[..3], &version.to_le_bytes()].concat());
+        }
+        states.extend(headers.iter().map(|header| {
+            let more = self.random.one_of(&[0, 1, 100]);
+            Buffer::of(&[header, &form[5..], &noise[..more]].concat())
+        }));
         // Bits and bytes changed, and fields.
         for changes in [1, 1, 1, 2, 3] {
             states.push(Buffer::of(&changed(self.random, form, changes)));
@@ -74,44 +86,6 @@ impl Host<'_> {
             states.push(Buffer::of(&[&form, &noise[..more]].concat()));
         }
         states
-    }
-}
-
-/// States with another header, and of version 1.
-impl Host<'_> {
-    /// Each byte of the header is another one, and versions.
-    fn other_headers(&mut self, form: &[u8]) -> Vec<Buffer> {
-        let mut headers: Vec<Vec<u8>> = Vec::new();
-        for at in 0..5 {
-            let mut header = form[..5].to_vec();
-            header[at] ^= self.random.from_to(1, 255) as u8;
-            headers.push(header);
-        }
-        for version in [0_u16, 1, 3, 256, 257, 258, 511, 65_535] {
-            headers.push([&form[..3], &version.to_le_bytes()].concat());
-        }
-        let mut states = Vec::new();
-        for header in headers {
-            let more = self.random.one_of(&[0, 1, 100]);
-            let more = self.noise.bytes(self.random, more);
-            states.push(Buffer::of(&[&header, &form[5..], more].concat()));
-        }
-        states
-    }
-
-    /// The bench's own state: alone, as long as one of version 2, with that behind it, and in its
-    /// place.
-    fn old_states(&mut self, kept: &Kept) -> [Buffer; 5] {
-        let form = &kept.state[..FORM];
-        let old = second::old_form_of(&kept.bench);
-        let noise = self.noise.bytes(self.random, FORM - OLD_FORM);
-        [
-            Buffer::of(&old),
-            Buffer::of(&[&old, noise].concat()),
-            Buffer::of(&[&old, &[0; FORM - OLD_FORM][..]].concat()),
-            Buffer::of(&[&old, form].concat()),
-            Buffer::of(&[&old, &form[OLD_FORM..]].concat()),
-        ]
     }
 }
 

@@ -3,10 +3,10 @@
 use crate::answers::ENOUGH;
 use crate::c_calls::Question;
 use crate::lent::Buffer;
-use second::{Bench, FORM, MAX_PIECE, OLD_FORM};
+use second::{Bench, FORM, MAX_PIECE};
 
 /// What must be met, in groups.
-const GROUPS: [(&str, &[&str]); 28] = [
+const GROUPS: [(&str, &[&str]); 19] = [
     ("load", &["taken", "1", "2", "3", "4", "5", "6", "7", "8"]),
     ("feed", &["taken", "21", "22", "23"]),
     (
@@ -19,15 +19,6 @@ const GROUPS: [(&str, &[&str]); 28] = [
     ("user holds", &["0", "more"]),
     ("wake set", &["0", "1"]),
     ("parents above", &["0", "more"]),
-    ("delay", &["0", "more"]),
-    ("flag", &["0", "1"]),
-    ("last busy, low half", &["0", "more"]),
-    ("last busy, high half", &["0", "more"]),
-    ("clock, low half", &["0", "more"]),
-    ("clock, high half", &["0", "more"]),
-    ("delay that is negative", &["met"]),
-    ("clock answered with an unknown part", &["met"]),
-    ("state of version 1 refused", &["feed", "ask"]),
     (
         "answered with an unknown second part that is not asked about",
         &["met"],
@@ -75,27 +66,22 @@ const FEED: usize = 1;
 const ASK: usize = 2;
 /// The first of the questions, in the order of their numbers.
 const QUESTIONS: usize = 3;
-const NEGATIVE: usize = 15;
-const CLOCK_OF_NO_PART: usize = 16;
-const OLD: usize = 17;
-const NOT_ASKED_ABOUT: usize = 18;
-const LOW_BYTE: usize = 19;
-const LOW_HALF: usize = 20;
-const TWO_FAULTS: usize = 21;
-const OPEN_AT_FEED: usize = 22;
-const OPEN_AT_ANSWER: usize = 23;
-const STATE_BYTES: usize = 24;
-const NULL: usize = 25;
-const PIECE: usize = 26;
-const ROOM: usize = 27;
+const NOT_ASKED_ABOUT: usize = 9;
+const LOW_BYTE: usize = 10;
+const LOW_HALF: usize = 11;
+const TWO_FAULTS: usize = 12;
+const OPEN_AT_FEED: usize = 13;
+const OPEN_AT_ANSWER: usize = 14;
+const STATE_BYTES: usize = 15;
+const NULL: usize = 16;
+const PIECE: usize = 17;
+const ROOM: usize = 18;
 
-/// The numbers of the questions about status, wake set, delay and clock.
+/// The numbers of the questions about status and wake set.
 const STATUS: u32 = 0;
 pub const WAKE_SET: u32 = 4;
-const DELAY: u32 = 6;
-pub const CLOCK: [u32; 2] = [10, 11];
 /// The first number that is no question's.
-pub const UNKNOWN: u32 = 12;
+pub const UNKNOWN: u32 = 6;
 
 /// How often each was met.
 #[derive(Default)]
@@ -136,7 +122,6 @@ impl Tally {
         };
         let needed = (carried + length) / 4 * 4;
         let (long, short) = (length > MAX_PIECE, room < needed);
-        self.add_if(result == -21 && is_old(state), OLD, 0);
         self.add_if(result == -21 && long, TWO_FAULTS, 1);
         self.add_if(result == -21 && short, TWO_FAULTS, 2);
         self.add_if(result == -22 && short, TWO_FAULTS, 3);
@@ -161,16 +146,10 @@ impl Tally {
         let n = bench.map_or(0, |bench| bench.n.into());
         let [question, part, second] = asked;
         let pair = question == WAKE_SET;
-        let of_no_part = CLOCK.contains(&question);
-        let unknown = [
-            question >= UNKNOWN,
-            !of_no_part && part >= n,
-            pair && second >= n,
-        ];
+        let unknown = [question >= UNKNOWN, part >= n, pair && second >= n];
         match result {
             -21 => {
                 self.add(ASK, 0);
-                self.add_if(is_old(state), OLD, 1);
                 self.add_if(question >= UNKNOWN || part >= 64, TWO_FAULTS, 4);
             }
             -24 => self.unknown([UNKNOWN, n, n], asked, unknown),
@@ -180,8 +159,6 @@ impl Tally {
                     _ => usize::from(result > 0),
                 };
                 self.add(QUESTIONS + question as usize, class);
-                self.add_if(question == DELAY && result > 32_767, NEGATIVE, 0);
-                self.add_if(of_no_part && part >= n, CLOCK_OF_NO_PART, 0);
                 self.add_if(!pair && second >= n, NOT_ASKED_ABOUT, 0);
                 self.add(OPEN_AT_ANSWER, state.bytes[CALLBACK].into());
             }
@@ -239,11 +216,5 @@ impl Tally {
 }
 
 /// Where a saved state has the open callback, and how many bytes it carries.
-const CALLBACK: usize = 1_926;
-const CARRIED: usize = 1_929;
-
-/// State bytes that begin with a saved state of version 1.
-fn is_old(state: &Buffer) -> bool {
-    let form = state.bytes.get(..OLD_FORM);
-    form.is_some_and(|form| second::restore(form).is_ok())
-}
+const CALLBACK: usize = 1_670;
+const CARRIED: usize = 1_673;

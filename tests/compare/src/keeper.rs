@@ -1,7 +1,7 @@
 //! The keeper's exported functions, made safe to call, and the memory that they work on.
 
 use crate::layout::{field, layout, Place, BYTES, FIELDS, WORDS};
-use second::{Bench, Number, DEVICE_ROWS};
+use second::{Bench, DEVICE_ROWS};
 
 /// The marks of a set of devices.
 pub type Marks = [bool; DEVICE_ROWS];
@@ -247,32 +247,35 @@ impl Memory {
     }
 
     /// Puts values into the rows of a field. None of them is beyond the field's cells.
-    fn fill<T: Number>(&mut self, field: usize, values: &[T]) {
+    fn fill<T: Copy + Into<u16>>(&mut self, field: usize, values: &[T]) {
         match layout().start(field) {
             Place::Byte(at) => {
                 for (cell, value) in self.bytes[at..].iter_mut().zip(values) {
-                    *cell = value.kept() as u8;
+                    *cell = (*value).into() as u8;
                 }
             }
             Place::Word(at) => {
                 for (cell, value) in self.words[at..].iter_mut().zip(values) {
-                    *cell = value.kept();
+                    *cell = u32::from((*value).into());
                 }
             }
         }
     }
 
     /// The rows of a field; none where a value is beyond the second's field.
-    fn column<T: Number, const N: usize>(&self, field: usize) -> Option<[T; N]> {
+    fn column<T: Copy + Default + TryFrom<u32>, const N: usize>(
+        &self,
+        field: usize,
+    ) -> Option<[T; N]> {
         let mut column = [T::default(); N];
         for (row, value) in column.iter_mut().enumerate() {
-            *value = T::of(self.at(layout().place(field, row)))?;
+            *value = self.at(layout().place(field, row)).try_into().ok()?;
         }
         Some(column)
     }
 
     /// A number of the whole bench.
-    fn number<T: Number>(&self, field: usize) -> Option<T> {
+    fn number<T: Copy + Default + TryFrom<u32>>(&self, field: usize) -> Option<T> {
         self.column(field).map(|[value]: [T; 1]| value)
     }
 
@@ -290,9 +293,6 @@ impl Memory {
             error: self.column(field::ERROR)?,
             children: self.column(field::CHILDREN)?,
             linked: self.column(field::LINKED)?,
-            delay: self.column(field::DELAY)?,
-            busy: self.column(field::BUSY)?,
-            auto: self.column(field::AUTO)?,
             consumer: self.column(field::CONSUMER)?,
             supplier: self.column(field::SUPPLIER)?,
             flags: self.column(field::FLAGS)?,
@@ -301,7 +301,6 @@ impl Memory {
             target: self.number(field::TARGET)?,
             carried: self.column(field::CARRIED)?,
             count: self.number(field::USED)?,
-            clock: self.number(field::CLOCK)?,
         })
     }
 
@@ -328,22 +327,18 @@ impl From<&Bench> for Memory {
         memory.fill(field::STATUS, &b.status);
         memory.fill(field::DEPTH, &b.depth);
         memory.fill(field::CHILDREN, &b.children);
-        memory.fill(field::AUTO, &b.auto);
         memory.fill(field::CONSUMER, &b.consumer);
         memory.fill(field::SUPPLIER, &b.supplier);
         memory.fill(field::FLAGS, &b.flags);
         memory.fill(field::HOLDS, &b.holds);
         memory.fill(field::ERROR, &b.error);
         memory.fill(field::LINKED, &b.linked);
-        memory.fill(field::DELAY, &b.delay);
-        memory.fill(field::BUSY, &b.busy);
         memory.fill(field::N, &[b.n]);
         memory.fill(field::M, &[b.m]);
         memory.fill(field::CALLBACK, &[b.callback]);
         memory.fill(field::ASKED, &[b.asked]);
         memory.fill(field::TARGET, &[b.target]);
         memory.fill(field::USED, &[b.count]);
-        memory.fill(field::CLOCK, &[b.clock]);
         memory.fill(field::CARRIED, &b.carried);
         memory
     }

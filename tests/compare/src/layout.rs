@@ -6,8 +6,8 @@ use second::{DEVICE_ROWS, LINK_ROWS};
 use std::sync::OnceLock;
 
 /// How many bytes and words a bench has: as many as there are cells.
-pub const BYTES: usize = 6 * DEVICE_ROWS + 3 * LINK_ROWS + 8;
-pub const WORDS: usize = 5 * DEVICE_ROWS + 2;
+pub const BYTES: usize = 5 * DEVICE_ROWS + 3 * LINK_ROWS + 8;
+pub const WORDS: usize = 3 * DEVICE_ROWS + 1;
 
 /// A field: its name, and where the keeper has it: a field number, the first row there, and how
 /// many rows it has.
@@ -28,7 +28,7 @@ const fn column(name: &'static str, number: u8, rows: usize) -> Field {
 }
 
 /// The numbers of the whole bench are one field of the keeper's.
-pub const NUMBERS: u8 = 14;
+const NUMBERS: u8 = 11;
 
 const fn number(name: &'static str, first: u16, rows: usize) -> Field {
     Field {
@@ -40,29 +40,25 @@ const fn number(name: &'static str, first: u16, rows: usize) -> Field {
 }
 
 /// The fields.
-pub const FIELDS: [Field; 22] = [
+pub const FIELDS: [Field; 18] = [
     column("parent", 0, DEVICE_ROWS),
     column("ignore", 1, DEVICE_ROWS),
     column("status", 2, DEVICE_ROWS),
     column("depth", 3, DEVICE_ROWS),
     column("children", 4, DEVICE_ROWS),
-    column("auto", 5, DEVICE_ROWS),
-    column("consumer", 6, LINK_ROWS),
-    column("supplier", 7, LINK_ROWS),
-    column("flags", 8, LINK_ROWS),
-    column("holds", 9, DEVICE_ROWS),
-    column("error", 10, DEVICE_ROWS),
-    column("linked", 11, DEVICE_ROWS),
-    column("delay", 12, DEVICE_ROWS),
-    column("busy", 13, DEVICE_ROWS),
+    column("consumer", 5, LINK_ROWS),
+    column("supplier", 6, LINK_ROWS),
+    column("flags", 7, LINK_ROWS),
+    column("holds", 8, DEVICE_ROWS),
+    column("error", 9, DEVICE_ROWS),
+    column("linked", 10, DEVICE_ROWS),
     number("n", 0, 1),
     number("m", 1, 1),
     number("callback", 2, 1),
     number("asked", 3, 1),
     number("target", 4, 1),
     number("used", 5, 1),
-    number("clock", 6, 1),
-    number("carried", 7, 3),
+    number("carried", 6, 3),
 ];
 
 impl Field {
@@ -79,23 +75,19 @@ pub mod field {
     pub const STATUS: usize = 2;
     pub const DEPTH: usize = 3;
     pub const CHILDREN: usize = 4;
-    pub const AUTO: usize = 5;
-    pub const CONSUMER: usize = 6;
-    pub const SUPPLIER: usize = 7;
-    pub const FLAGS: usize = 8;
-    pub const HOLDS: usize = 9;
-    pub const ERROR: usize = 10;
-    pub const LINKED: usize = 11;
-    pub const DELAY: usize = 12;
-    pub const BUSY: usize = 13;
-    pub const N: usize = 14;
-    pub const M: usize = 15;
-    pub const CALLBACK: usize = 16;
-    pub const ASKED: usize = 17;
-    pub const TARGET: usize = 18;
-    pub const USED: usize = 19;
-    pub const CLOCK: usize = 20;
-    pub const CARRIED: usize = 21;
+    pub const CONSUMER: usize = 5;
+    pub const SUPPLIER: usize = 6;
+    pub const FLAGS: usize = 7;
+    pub const HOLDS: usize = 8;
+    pub const ERROR: usize = 9;
+    pub const LINKED: usize = 10;
+    pub const N: usize = 11;
+    pub const M: usize = 12;
+    pub const CALLBACK: usize = 13;
+    pub const ASKED: usize = 14;
+    pub const TARGET: usize = 15;
+    pub const USED: usize = 16;
+    pub const CARRIED: usize = 17;
 }
 
 /// A place in the memory.
@@ -167,7 +159,7 @@ pub fn probe() -> Result<(), String> {
             beyond(field.number, [field.rows, field.rows + 1, 65_535])?;
         }
     }
-    beyond(NUMBERS, [10, 11, 255, 256, 65_535])?;
+    beyond(NUMBERS, [9, 10, 255, 256, 65_535])?;
     for number in NUMBERS + 1..=255 {
         beyond(number, [0, 1, 255, 65_535])?;
     }

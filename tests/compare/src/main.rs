@@ -13,7 +13,7 @@
 //! COUNT` makes the calls of a C host in so many rounds of tables, logs,
 //! questions and stray states. It ends with status 1 at the first difference,
 //! and where 200 or more benches, lists or rounds leave out an answer of
-//! document 01 or of requests One, Four, Five and Six.
+//! document 01 or of requests One, Four and Five.
 //! `compare bench` times both, and the calls of a C host.
 
 mod answers;
@@ -36,7 +36,6 @@ mod saved;
 mod speed;
 mod starts;
 mod tables;
-mod timed;
 mod unordered;
 mod writer;
 

@@ -8,25 +8,18 @@ use crate::starts;
 use second::generate::damage::damaged;
 use second::generate::hosts::write;
 use second::generate::random::Random;
-use second::generate::times;
-use second::{Bench, Number};
+use second::Bench;
 
 /// The questions by their numbers. The last one is about two devices.
-const QUESTIONS: [&str; 10] = [
+const QUESTIONS: [&str; 6] = [
     "status",
     "user holds",
     "usage count",
     "child count",
     "parents above",
-    "delay",
-    "last busy",
-    "flag",
-    "clock",
     "wake set",
 ];
-/// The clock is no device's.
-const CLOCK: u8 = 8;
-const WAKE_SET: u8 = 9;
+const WAKE_SET: u8 = 5;
 
 /// The refusals.
 const UNSOUND: u64 = 21;
@@ -35,11 +28,9 @@ const UNKNOWN: u64 = 24;
 /// A question's answers as they are counted.
 const ANSWERS: [&str; 4] = ["21", "24", "zero", "more"];
 
-/// The kinds of records that a method makes, and those with a value.
-const KINDS: std::ops::RangeInclusive<u8> = 1..=18;
-const WITH_VALUE: [u8; 5] = [12, 13, 14, 16, 17];
-/// The method of a tick has no device, and stands for a record with part 0.
-const TICK: u8 = 14;
+/// The first and the last kind of records that a method makes, and the first with a value.
+const KINDS: std::ops::RangeInclusive<u8> = 1..=13;
+const FIRST_WITH_VALUE: u8 = 12;
 
 /// Compares the keepers on so many benches and on damaged ones: the tally, or the first difference.
 pub fn compare(seed: u64, count: u64) -> Result<String, String> {
@@ -121,10 +112,10 @@ impl Pair {
         let (asked, target) = (self.second.as_ref()).map_or((0, 0), |b| (b.asked, b.target));
         for kind in KINDS {
             for device in [asked, target, any_device(random, n), n, u8::MAX] {
-                let value = if WITH_VALUE.contains(&kind) {
-                    self.value(random, kind)
-                } else {
+                let value = if kind < FIRST_WITH_VALUE {
                     0
+                } else {
+                    random.one_of(&[0, 0, 1, 2, -1, -5, -11, -13, -16, -4_095, -4_096, 256])
                 };
                 self.method(tally, write(kind, device, value))?;
             }
@@ -132,27 +123,11 @@ impl Pair {
         Ok(())
     }
 
-    /// A value for a method that has one, good or not.
-    fn value(&self, random: &mut Random, kind: u8) -> i16 {
-        match &self.second {
-            Some(bench) if random.percent(60) && kind != 13 => times::value(random, bench, kind),
-            _ => random.one_of(&[
-                0, 0, 1, 2, -1, -5, -11, -13, -16, -4_095, -4_096, 256, 32_767, -32_768,
-            ]),
-        }
-    }
-
     fn method(&self, tally: &mut Tally, record: [u8; 4]) -> Result<(), String> {
         let mut keeper = self.keeper.clone();
         let reply = keeper.request(record);
         let mut second = self.second.clone();
-        let [kind, _, low, high] = record;
-        let meant = if kind == TICK {
-            [kind, 0, low, high]
-        } else {
-            record
-        };
-        let right = (second.as_mut()).map_or(Err(UNSOUND as u8), |bench| bench.request(meant));
+        let right = (second.as_mut()).map_or(Err(UNSOUND as u8), |bench| bench.request(record));
         tally.method(record[0], right.is_ok());
         let right = right.unwrap_or_else(|number| [number, 0, 0, 0]);
         if reply != right {
@@ -177,10 +152,6 @@ fn asked(bench: &Bench, question: u8, p: u8, q: u8) -> Result<u64, u8> {
         2 => bench.usage_count(p)?.into(),
         3 => bench.child_count(p)?.into(),
         4 => bench.parents_above(p)?.into(),
-        5 => bench.delay_of(p)?.kept().into(),
-        6 => bench.last_busy(p)?.into(),
-        7 => bench.uses_autosuspend(p)?.into(),
-        CLOCK => bench.clock_time()?.into(),
         _ => bench.wakes_with(p, q)?.into(),
     })
 }
@@ -198,7 +169,7 @@ fn any_device(random: &mut Random, n: u8) -> u8 {
 struct Tally {
     questions: [[u64; ANSWERS.len()]; QUESTIONS.len()],
     /// The replies to each kind: the refusals, and the others.
-    methods: [[u64; 2]; 19],
+    methods: [[u64; 2]; 14],
 }
 
 impl Tally {
@@ -221,10 +192,8 @@ impl Tally {
         if benches < ENOUGH {
             return Ok(());
         }
-        for (question, counts) in (0..).zip(self.questions) {
-            let name = QUESTIONS[usize::from(question)];
-            let never = |class: &usize| counts[*class] == 0 && (question, *class) != (CLOCK, 1);
-            if let Some(class) = (0..ANSWERS.len()).find(never) {
+        for (name, counts) in QUESTIONS.iter().zip(self.questions) {
+            if let Some(class) = counts.iter().position(|&count| count == 0) {
                 return Err(format!("{name}, answer {}: never met", ANSWERS[class]));
             }
         }

@@ -4,7 +4,7 @@ use crate::answers::Tally;
 use crate::keeper::Memory;
 use crate::layout::{self, field};
 use crate::starts::{self, Start};
-use second::generate::hosts::{any_host, next_record, request, write, Host};
+use second::generate::hosts::{any_host, next_record, write, Host};
 use second::generate::random::Random;
 use second::{Bench, MAX_HOLDS, NO_CALLBACK};
 
@@ -135,9 +135,6 @@ impl<'a> Pair<'a> {
     }
 }
 
-/// The kinds of records about a device that are no results.
-const ABOUT: [u8; 17] = [1, 2, 3, 4, 5, 6, 7, 8, 9, 10, 11, 12, 14, 15, 16, 17, 18];
-
 /// Who writes the records of a log.
 #[derive(Clone, Copy)]
 pub enum Writer {
@@ -185,8 +182,7 @@ impl Writer {
                 failing(random, bench)
             }
             Writer::About(device) if bench.callback == NO_CALLBACK && random.percent(60) => {
-                let kind = random.one_of(&ABOUT);
-                request(random, bench, kind, device)
+                write(random.from_to(1, 12) as u8, device, 0)
             }
             Writer::Failing | Writer::About(_) => next_record(random, bench, Host::Lively),
             Writer::Bytes => bytes(random, bench),
@@ -223,15 +219,14 @@ fn bytes(random: &mut Random, bench: &Bench) -> [u8; 4] {
     let [mut kind, mut device, low, high] = [(); 4].map(|_| random.byte());
     let mut value = i16::from_le_bytes([low, high]);
     if random.percent(70) {
-        kind %= 20;
+        kind %= 15;
     }
     if random.percent(70) {
         device %= bench.n;
     }
     if random.percent(70) {
         value = random.one_of(&[
-            0, 0, 0, 0, 1, 2, -1, -2, 255, 256, 999, 1_000, 1_001, -4_094, -4_095, -4_096, -4_097,
-            32_767, -32_768,
+            0, 0, 0, 0, 1, 2, -1, -2, 255, 256, -4_094, -4_095, -4_096, -4_097, 32_767, -32_768,
         ]);
     }
     write(kind, device, value)

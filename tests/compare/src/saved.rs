@@ -1,6 +1,5 @@
 //! Saved states of random benches, sound and damaged: what both keepers write, what they make of
-//! whole, changed and stray bytes of both versions, and logs that are broken off by saving and
-//! restoring.
+//! whole, changed and stray bytes, and logs that are broken off by saving and restoring.
 
 use crate::answers::ENOUGH;
 use crate::benches::damaged_cell;
@@ -9,12 +8,10 @@ use crate::keeper::Memory;
 use crate::starts::{self, Start};
 use second::generate::damage::damaged;
 use second::generate::random::Random;
-use second::{
-    Bench, FORM, IDLE_CALLBACK, NO_CALLBACK, OLD_FORM, RESUME_CALLBACK, SUSPEND_CALLBACK,
-};
+use second::{Bench, FORM, IDLE_CALLBACK, NO_CALLBACK, RESUME_CALLBACK, SUSPEND_CALLBACK};
 
-/// Compares the keepers on so many benches, and on every change of a byte of some forms, one of them
-/// of version 1: the tally, or the first difference.
+/// Compares the keepers on so many benches, and on every change of a byte of some forms: the tally,
+/// or the first difference.
 pub fn compare(seed: u64, count: u64) -> Result<String, String> {
     let mut random = Random::new(seed);
     let mut tally = Tally::default();
@@ -23,25 +20,15 @@ pub fn compare(seed: u64, count: u64) -> Result<String, String> {
         let bench = starts::bench(&mut random, start);
         savings(&mut random, &mut tally, &bench)
             .and_then(|()| strays(&mut random, &mut tally, &bench))
-            .and_then(|()| old(&mut random, &mut tally, &bench))
             .and_then(|()| breaks::log(&mut random, &mut tally.breaks, start, &bench))
             .map_err(|what| format!("seed {seed}, bench {number}: {what}"))?;
     }
     for (start, callback) in CHANGED {
         let bench = with_callback(&mut random, start, callback);
         let form = second::save(&bench).map_err(|number| format!("not saved: {number}"))?;
-        let mut forms = vec![form];
-        if callback == RESUME_CALLBACK {
-            forms.push(second::old_form_of(&bench));
-        }
-        for form in forms {
-            every_change(&mut tally, &form)
-                .and_then(|()| every_length(&mut random, &mut tally, &form))
-                .map_err(|what| {
-                    let version = form[3];
-                    format!("seed {seed}, open callback {callback}, version {version}, {what}")
-                })?;
-        }
+        every_change(&mut tally, &form)
+            .and_then(|()| every_length(&mut random, &mut tally, &form))
+            .map_err(|what| format!("seed {seed}, open callback {callback}, {what}"))?;
     }
     tally.complete(count)?;
     Ok(tally.line(count))
@@ -142,7 +129,7 @@ fn saving(
 
 /// Some bytes restored by both: the number that both answer, and the memory that is left, that of
 /// the empty bench where they are refused; else how the two differ. What is taken is saved as the
-/// same bytes, where they are of version 2; else as bytes that are restored to the same bench.
+/// same bytes.
 fn restored(tally: &mut Tally, bytes: &[u8]) -> Result<(u32, Memory), String> {
     // No cell is right unless it is written.
     let mut memory = Memory::filled(true);
@@ -163,69 +150,10 @@ fn restored(tally: &mut Tally, bytes: &[u8]) -> Result<(u32, Memory), String> {
         if number != 0 {
             return Err(format!("saved again: {number}"));
         }
-        if bytes[3] == 1 {
-            upgraded(&memory, &again)?;
-        } else {
-            same_bytes("saved again", &again, bytes)?;
-        }
+        same_bytes("saved again", &again, bytes)?;
     }
-    let old = bytes.len() > 3 && bytes[3] == 1;
-    tally.restoring(number, old)?;
+    tally.restoring(number)?;
     Ok((number, memory))
-}
-
-/// The bench of a state of version 1 is saved as one of version 2, which is restored to it.
-fn upgraded(memory: &Memory, form: &[u8]) -> Result<(), String> {
-    let bench = memory.bench().ok_or("a value beyond its field")?;
-    let times = (bench.clock, bench.delay, bench.busy, bench.auto);
-    let empty = Bench::empty();
-    if times != (0, empty.delay, empty.busy, empty.auto) {
-        return Err("a new field of version 1 is not 0".to_string());
-    }
-    same_bytes("saved as version 2", form, &second::form_of(&bench))?;
-    let mut again = Memory::filled(true);
-    let number = again.restore(form);
-    if number != 0 || again != *memory {
-        let what = again.difference(memory);
-        return Err(format!("restored from version 2: {number}, {what}"));
-    }
-    Ok(())
-}
-
-/// States of version 1: the bench's own fields, those of damaged benches, spoiled ones, and each
-/// version with the length and the fields of the other.
-fn old(random: &mut Random, tally: &mut Tally, bench: &Bench) -> Result<(), String> {
-    let form = second::old_form_of(bench);
-    let mut bytes = vec![form.clone()];
-    bytes.extend((0..4).map(|_| second::old_form_of(&damaged(random, bench))));
-    bytes.extend((0..6).map(|_| spoiled(random, &form)));
-    let mut headed = random_bytes(random, OLD_FORM);
-    headed[..5].copy_from_slice(&form[..5]);
-    bytes.push(headed);
-    let mut longer = form.clone();
-    longer.resize(FORM, 0);
-    let mut relabelled = second::form_of(bench);
-    relabelled[3] = 1;
-    let shorter = second::form_of(bench)[..OLD_FORM].to_vec();
-    bytes.extend([longer, relabelled, shorter]);
-    for (number, bytes) in bytes.iter().enumerate() {
-        restored(tally, bytes).map_err(|what| {
-            format!(
-                "version 1, bytes {number} restored, {}: {what}",
-                shown(bytes)
-            )
-        })?;
-    }
-    let (number, memory) = restored(tally, &form)?;
-    let mut right = bench.clone();
-    right.clock = 0;
-    let empty = Bench::empty();
-    (right.delay, right.busy, right.auto) = (empty.delay, empty.busy, empty.auto);
-    if number != 0 || memory != Memory::from(&right) {
-        let what = memory.difference(&Memory::from(&right));
-        return Err(format!("version 1 restored: {number}, {what}"));
-    }
-    Ok(())
 }
 
 /// Bytes that are no form, or another bench's: spoiled ones, random ones with and without a good
@@ -234,7 +162,7 @@ fn strays(random: &mut Random, tally: &mut Tally, bench: &Bench) -> Result<(), S
     let form = second::form_of(bench);
     let mut strays: Vec<Vec<u8>> = (0..12).map(|_| spoiled(random, &form)).collect();
     strays.extend((0..6).map(|_| second::form_of(&damaged(random, bench))));
-    let most = random.one_of(&[10, 9_000]);
+    let most = random.one_of(&[10, 6_000]);
     let length = random.below(most) as usize;
     strays.push(random_bytes(random, length));
     let mut headed = random_bytes(random, FORM);
@@ -247,18 +175,6 @@ fn strays(random: &mut Random, tally: &mut Tally, bench: &Bench) -> Result<(), S
     Ok(())
 }
 
-/// Versions: known ones, unknown ones, and ones that are known in one byte.
-const VERSIONS: [[u8; 2]; 8] = [
-    [0, 0],
-    [0, 1],
-    [1, 0],
-    [1, 1],
-    [1, 255],
-    [2, 0],
-    [2, 1],
-    [3, 0],
-];
-
 /// A form with another mark, version, length and fields, or some of these.
 fn spoiled(random: &mut Random, form: &[u8]) -> Vec<u8> {
     let mut bytes = form.to_vec();
@@ -267,24 +183,19 @@ fn spoiled(random: &mut Random, form: &[u8]) -> Vec<u8> {
     }
     if random.percent(30) {
         let any = [random.byte(), random.byte()];
-        let known = random.one_of(&VERSIONS);
-        let version = if random.percent(90) { known } else { any };
+        let version = random.one_of(&[[0, 0], [0, 1], [1, 1], [1, 255], [2, 0], [3, 0], any]);
         bytes[3..5].copy_from_slice(&version);
     }
     if random.percent(50) {
         for _ in 0..random.from_to(1, 3) {
-            let at = random.from_to(5, form.len() as u64 - 1) as usize;
+            let at = random.from_to(5, FORM as u64 - 1) as usize;
             let any = random.byte();
             bytes[at] = random.one_of(&[0, 1, 2, 255, any, bytes[at] ^ 1]);
         }
     }
     if random.percent(30) {
-        let whole = form.len();
-        let any = random.below(whole as u64) as usize;
-        let near = [any, whole - 1, whole + 1, whole + any, FORM, OLD_FORM];
-        let few = random.below(7) as usize;
-        let length = random.one_of(&near);
-        let length = if random.percent(50) { few } else { length };
+        let any = random.below(FORM as u64) as usize;
+        let length = random.one_of(&[0, 1, 2, 3, 4, 5, 6, any, FORM - 1, FORM + 1, FORM + any]);
         bytes.resize(length, random.one_of(&[0, 255]));
     }
     bytes
@@ -334,7 +245,7 @@ fn every_change(tally: &mut Tally, form: &[u8]) -> Result<(), String> {
 /// Every shorter length of a form, and longer by 1 to 16 bytes.
 fn every_length(random: &mut Random, tally: &mut Tally, form: &[u8]) -> Result<(), String> {
     let longer = [form, &random_bytes(random, 16)].concat();
-    for length in (0..=longer.len()).filter(|&length| length != form.len()) {
+    for length in (0..=longer.len()).filter(|&length| length != FORM) {
         let (number, _) =
             restored(tally, &longer[..length]).map_err(|what| format!("{length} bytes: {what}"))?;
         let right = if length < 5 { 1 } else { 5 };
@@ -359,8 +270,7 @@ struct Tally {
     savings: [u64; SAVINGS.len()],
     /// Savings refused with 21 for a buffer that is short too.
     both: u64,
-    /// By version: the newest and those without one, and version 1.
-    restorings: [[u64; RESTORINGS.len()]; 2],
+    restorings: [u64; RESTORINGS.len()],
     /// Changes of a byte that are refused, and that are another bench's form.
     changed: [u64; 2],
     /// Benches that were saved.
@@ -375,8 +285,8 @@ impl Tally {
         count(&mut self.savings, &SAVINGS, number)
     }
 
-    fn restoring(&mut self, number: u32, old: bool) -> Result<(), String> {
-        count(&mut self.restorings[usize::from(old)], &RESTORINGS, number)
+    fn restoring(&mut self, number: u32) -> Result<(), String> {
+        count(&mut self.restorings, &RESTORINGS, number)
     }
 
     /// Everything was met, if there were enough benches.
@@ -385,8 +295,7 @@ impl Tally {
         let met = [
             &self.savings[..],
             &[self.both],
-            &self.restorings[0],
-            &self.restorings[1],
+            &self.restorings,
             &self.changed,
             &open,
             &carried,
@@ -401,15 +310,15 @@ impl Tally {
     /// The counts on one line.
     fn line(&self, benches: u64) -> String {
         let [written, room, unsound] = self.savings;
+        let [taken, short, mark, version, length, no_form] = self.restorings;
         let [refused, others] = self.changed;
         format!(
             "saved: {benches} benches, each also damaged: written {written}, \
-             refused 8: {room}, 21: {unsound} ({} with a short buffer too); {}; of version 1 {}; \
+             refused 8: {room}, 21: {unsound} ({} with a short buffer too); restored {taken}, \
+             refused 1: {short}, 2: {mark}, 3: {version}, 5: {length}, 21: {no_form}; \
              of {} changes of a byte {refused} refused, {others} another bench's form; \
              forms with {}; logs broken off with {}",
             self.both,
-            by_number(&self.restorings[0]),
-            by_number(&self.restorings[1]),
             refused + others,
             by_callback(&self.forms),
             by_callback(&self.breaks),
@@ -424,12 +333,6 @@ fn count(counts: &mut [u64], known: &[u32], number: u32) -> Result<(), String> {
         None => return Err(format!("answer {number}")),
     }
     Ok(())
-}
-
-fn by_number([taken, short, mark, version, length, no_form]: &[u64; RESTORINGS.len()]) -> String {
-    format!(
-        "restored {taken}, refused 1: {short}, 2: {mark}, 3: {version}, 5: {length}, 21: {no_form}"
-    )
 }
 
 /// How many have each callback open, and how many carry each number of bytes.

@@ -201,7 +201,7 @@ fn log() -> (Bench, Vec<u8>) {
 }
 
 /// The host answers the open callback; else it sets the status of a failed or
-/// disabled device, enables it, gives up one that it holds, or asks for another; the clock goes on.
+/// disabled device, enables it, gives up one that it holds, or asks for another.
 fn next_record(random: &mut Random, bench: &Bench) -> [u8; 4] {
     if bench.callback != NO_CALLBACK && random.percent(98) {
         return write(13, bench.asked, result(random));
@@ -215,17 +215,10 @@ fn next_record(random: &mut Random, bench: &Bench) -> [u8; 4] {
     } else if bench.holds[row] > 0 {
         random.one_of(&[3, 5, 6, 6, 6, 6, 6, 6])
     } else {
-        random.one_of(&[
-            2, 4, 4, 7, 7, 7, 7, 8, 8, 8, 8, 8, 8, 9, 12, 14, 15, 16, 17, 18, 18, 18,
-        ])
+        random.one_of(&[2, 4, 4, 7, 7, 7, 7, 8, 8, 8, 8, 8, 8, 9, 12])
     };
-    let value = match kind {
-        12 | 17 => random.below(2),
-        14 => random.below(1_000),
-        16 => random.below(3_000),
-        _ => 0,
-    };
-    write(kind, if kind == 14 { 0 } else { device }, value as i16)
+    let value = if kind == 12 { random.below(2) } else { 0 };
+    write(kind, device, value as i16)
 }
 
 /// A callback's result: mostly 0, now and then busy, seldom an error.

@@ -4,7 +4,6 @@ use crate::benches::{loaded, reached};
 use second::generate::damage::changed;
 use second::generate::random::Random;
 use second::generate::tables::Draft;
-use second::generate::times;
 use second::{
     Bench, DEVICE_ROWS, IDLE_CALLBACK, MAX_DEVICES, MAX_HOLDS, MAX_LINKS, NO_CALLBACK, NO_PARENT,
     RESUME_CALLBACK, RUNTIME, STATELESS, SUSPEND_CALLBACK,
@@ -25,20 +24,16 @@ pub enum Start {
     Open,
     /// Many consumers of device 0 are powered, and its use count is at or beyond a power of two.
     Crowded,
-    /// Most devices are active and in no use, use autosuspend, and expire around the clock, which
-    /// is often near its end; often a callback is open.
-    Timed,
 }
 
 /// Each sort, in the order of the tally.
-pub const ALL: [(Start, &str); 7] = [
+pub const ALL: [(Start, &str); 6] = [
     (Start::Loaded, "loaded"),
     (Start::Reached, "reached"),
     (Start::Changed, "changed"),
     (Start::Strained, "strained"),
     (Start::Open, "open"),
     (Start::Crowded, "crowded"),
-    (Start::Timed, "timed"),
 ];
 
 /// A bench of this sort, with 0 to 3 bytes carried.
@@ -53,7 +48,6 @@ pub fn bench(random: &mut Random, start: Start) -> Bench {
         Start::Strained => strained(random),
         Start::Open => open(random),
         Start::Crowded => crowded(random),
-        Start::Timed => timed(random),
     };
     carry(random, &mut bench);
     bench
@@ -97,9 +91,6 @@ fn ask(random: &mut Random, bench: &mut Bench, kind: u8) {
     bench.holds = [0; DEVICE_ROWS];
     bench.depth = [0; DEVICE_ROWS];
     bench.error = [0; DEVICE_ROWS];
-    for delay in &mut bench.delay {
-        *delay = (*delay).max(0);
-    }
     let first = random.below(bench.n.into()) as u8;
     for step in 0..bench.n {
         if bench.callback == NO_CALLBACK {
@@ -126,30 +117,6 @@ fn crowded(random: &mut Random) -> Bench {
     let links = bench.linked[0];
     let usage = random.one_of(&[128, 256, 32_767, 32_768, 32_769, MAX_HOLDS + links]);
     bench.holds[0] = usage.saturating_sub(links).min(MAX_HOLDS);
-    bench
-}
-
-fn timed(random: &mut Random) -> Bench {
-    let mut bench = loaded(random);
-    for device in 0..bench.n {
-        if random.percent(90) {
-            bench.record([10, device, 0, 0]);
-        }
-    }
-    for device in 0..bench.n {
-        if random.percent(95) {
-            bench.record([1, device, 0, 0]);
-        }
-        if random.percent(80) {
-            times::strain(random, &mut bench, device.into());
-        }
-    }
-    let kind = random.one_of(&[7, 8, 9, 18]);
-    for device in 0..bench.n {
-        if bench.callback == NO_CALLBACK && random.percent(20) {
-            bench.record([kind, device, 0, 0]);
-        }
-    }
     bench
 }
 

@@ -3,7 +3,6 @@
 
 use crate::benches::{damaged_cell, reached};
 use crate::keeper::Memory;
-use crate::layout::NUMBERS;
 use second::generate::random::Random;
 use second::{DEVICE_ROWS, LINK_ROWS};
 
@@ -11,9 +10,10 @@ use second::{DEVICE_ROWS, LINK_ROWS};
 const PARENT: u8 = 0;
 const IGNORE: u8 = 1;
 const STATUS: u8 = 2;
-const CONSUMER: u8 = 6;
-const SUPPLIER: u8 = 7;
-const FLAGS: u8 = 8;
+const CONSUMER: u8 = 5;
+const SUPPLIER: u8 = 6;
+const FLAGS: u8 = 7;
+const NUMBERS: u8 = 11;
 
 /// Compares the wake sets of so many damaged memories: how many members they had, or the first
 /// difference.

@@ -17,7 +17,7 @@ fn definitions(text: &str) -> Vec<&str> {
 }
 
 /// How many words a state has.
-const STATE_WORDS: usize = 22;
+const STATE_WORDS: usize = 18;
 
 fn list(numbers: &[u64]) -> String {
     let mut text = String::from("(");
@@ -65,11 +65,7 @@ fn state(words: &[&str]) -> String {
         write!(text, " {}", list(&numbers(field(words, column)))).expect("a string takes it");
     }
     let scalars = [field(words, "callback"), field(words, "asked"), field(words, "target")].join(" ");
-    write!(text, " {scalars} {} {}", list(&numbers(field(words, "carried"))), field(words, "count")).expect("a string takes it");
-    for column in ["delay", "busy", "auto"] {
-        write!(text, " {}", list(&numbers(field(words, column)))).expect("a string takes it");
-    }
-    format!("{text} {})", field(words, "clock"))
+    format!("{text} {scalars} {} {})", list(&numbers(field(words, "carried"))), field(words, "count"))
 }
 
 /// What a case says, in the words of the definitions.
@@ -133,7 +129,7 @@ fn header(texts: &[(&str, String)]) -> String {
         "use Prim.Native.Nat.{ℕ, zero, suc}\n",
         "use Rattle·model·specs.specs.State.{State}\n",
         "use Rattle·model·specs.specs.Steps.{Exchange, Run}\n",
-        "use Rattle·model·specs.specs.Questions.{Told, tellStatus, tellHolds, tellUsage, tellChildren, tellAbove, tellDelay, tellBusy, tellAuto, tellClock, tellWake}\n",
+        "use Rattle·model·specs.specs.Questions.{Told, tellStatus, tellHolds, tellUsage, tellChildren, tellWake, tellAbove}\n",
         "use Rattle·model·specs.specs.Demand3.{isGet, isPut}\n",
     ));
     for (file, definition) in texts {
@@ -142,19 +138,18 @@ fn header(texts: &[(&str, String)]) -> String {
     }
     text + concat!(
         "\npad : ℕ → List ℕ → List ℕ\npad zero l = []\npad (suc n) [] = 0 ∷ pad n []\npad (suc n) (a ∷ l) = a ∷ pad n l\n",
-        "\nbench : ℕ → ℕ → List ℕ → List ℕ → List ℕ → List ℕ → List ℕ → List ℕ → List ℕ → List ℕ → List ℕ → List ℕ → List ℕ → ℕ → ℕ → ℕ → List ℕ → ℕ → List ℕ → List ℕ → List ℕ → ℕ → State\n",
-        "bench n m pa ig st ho de er ch li co su fl k a t b u dl bu au cl =\n",
+        "\nbench : ℕ → ℕ → List ℕ → List ℕ → List ℕ → List ℕ → List ℕ → List ℕ → List ℕ → List ℕ → List ℕ → List ℕ → List ℕ → ℕ → ℕ → ℕ → List ℕ → ℕ → State\n",
+        "bench n m pa ig st ho de er ch li co su fl k a t b u =\n",
         "    record {\n",
         "      wiring = record { n = n; m = m; parent = pad ROWS pa; ignore = pad ROWS ig; consumer = pad LINKS co; supplier = pad LINKS su; flags = pad LINKS fl };\n",
         "      devices = record { status = pad ROWS st; holds = pad ROWS ho; depth = pad ROWS de; error = pad ROWS er; children = pad ROWS ch; linked = pad ROWS li };\n",
         "      callback = record { kind = k; asked = a; target = t };\n",
         "      carry = record { bytes = b; used = u };\n",
-        "      timers = record { delay = pad ROWS dl; busy = pad ROWS bu; auto = pad ROWS au; clock = pad 1 (cl ∷ []) };\n",
         "    }\n",
         "\noutcome : Run → List ℕ × State\noutcome r = (repliesIn (r .log), r .state)\n",
         "\ncounts : ℕ → ℕ → List Exchange → List ℕ\ncounts zero q log = []\ncounts (suc k) q log = counted isGet q log ∷ counted isPut q log ∷ counts k (suc q) log\n",
         "\nplayed : ℕ → Run → List ℕ × List ℕ × State\nplayed n r = (repliesIn (r .log), counts n 0 (r .log), r .state)\n",
-        "\nasked : State → ℕ → ℕ → List Told\nasked s p q = tellStatus s p ∷ tellHolds s p ∷ tellUsage s p ∷ tellChildren s p ∷ tellAbove s p ∷ tellDelay s p ∷ tellBusy s p ∷ tellAuto s p ∷ tellClock s ∷ tellWake s p q ∷ []\n",
+        "\nasked : State → ℕ → ℕ → List Told\nasked s p q = tellStatus s p ∷ tellHolds s p ∷ tellUsage s p ∷ tellChildren s p ∷ tellAbove s p ∷ tellWake s p q ∷ []\n",
     )
 }
 

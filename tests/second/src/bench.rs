@@ -21,8 +21,6 @@ pub const STATELESS: u8 = 2;
 pub const MAX_HOLDS: u16 = 32_767;
 /// The greatest magnitude of a runtime error.
 pub const MAX_ERROR: u16 = 4_095;
-/// From this delay on, in milliseconds, the expiry is rounded up to a whole multiple of it.
-pub const ROUNDED_FROM: i16 = 1_000;
 
 /// Status: suspended.
 pub const SUSPENDED: u8 = 0;
@@ -73,12 +71,6 @@ pub struct Bench {
     pub children: [u16; DEVICE_ROWS],
     /// Runtime links to the device from a powered consumer.
     pub linked: [u16; DEVICE_ROWS],
-    /// Request Six: delay, in milliseconds.
-    pub delay: [i16; DEVICE_ROWS],
-    /// Request Six: last busy, even past the clock.
-    pub busy: [u32; DEVICE_ROWS],
-    /// Request Six: the flag, uses autosuspend, 0 or 1.
-    pub auto: [u8; DEVICE_ROWS],
     /// Document 01: consumer of a link.
     pub consumer: [u8; LINK_ROWS],
     /// Document 01: supplier of a link.
@@ -95,8 +87,6 @@ pub struct Bench {
     pub carried: [u8; 3],
     /// How many bytes are carried.
     pub count: u8,
-    /// Request Six: clock, in milliseconds.
-    pub clock: u32,
 }
 
 impl Bench {
@@ -113,9 +103,6 @@ impl Bench {
             error: [0; DEVICE_ROWS],
             children: [0; DEVICE_ROWS],
             linked: [0; DEVICE_ROWS],
-            delay: [0; DEVICE_ROWS],
-            busy: [0; DEVICE_ROWS],
-            auto: [0; DEVICE_ROWS],
             consumer: [0; LINK_ROWS],
             supplier: [0; LINK_ROWS],
             flags: [0; LINK_ROWS],
@@ -124,7 +111,6 @@ impl Bench {
             target: 0,
             carried: [0; 3],
             count: 0,
-            clock: 0,
         }
     }
 
@@ -141,18 +127,6 @@ impl Bench {
     /// Document 01: use count. User holds plus links from powered consumers.
     pub fn usage(&self, device: usize) -> u32 {
         u32::from(self.holds[device]) + u32::from(self.linked[device])
-    }
-
-    /// Request Six: expiry. Last busy plus delay; the sum is rounded up to a
-    /// whole 1,000 where the delay is 1,000 or more. It may lie past the clock's end.
-    pub fn expiry(&self, device: usize) -> i64 {
-        let delay = self.delay[device];
-        let sum = i64::from(self.busy[device]) + i64::from(delay);
-        if delay < ROUNDED_FROM {
-            return sum;
-        }
-        let whole = i64::from(ROUNDED_FROM);
-        (sum + whole - 1) / whole * whole
     }
 
     /// The parent, if there is one.

@@ -44,36 +44,25 @@ pub fn ask(state: &[u8], question: u32, part: u32, second: u32) -> i32 {
     told(&bench, question, part, second).map_or(-24, |answer| answer as i32)
 }
 
-/// Numbers of 32 bits are asked for in two halves: an answer is not negative.
-const HALF: u32 = 1 << 16;
-
 /// The answer to a question; none where it or a part that it is about is
 /// unknown.
 fn told(bench: &Bench, question: u32, part: u32, second: u32) -> Option<u32> {
-    // The clock is no part's.
-    match question {
-        10 => return Some(bench.clock % HALF),
-        11 => return Some(bench.clock / HALF),
-        _ => {}
-    }
     let row = row_of(bench, part)?;
     Some(match question {
         0 => bench.status[row].into(),
         1 => bench.usage(row),
         2 => bench.children[row].into(),
         3 => bench.holds[row].into(),
-        4 => bench.wake_set(row).contains(row_of(bench, second)?).into(),
+        4 => bench
+            .wake_set(row)
+            .contains(row_of(bench, second)?)
+            .into(),
         5 => bench.parents(row),
-        6 => u32::from(bench.delay[row] as u16),
-        7 => bench.auto[row].into(),
-        8 => bench.busy[row] % HALF,
-        9 => bench.busy[row] / HALF,
         _ => return None,
     })
 }
 
-/// The bench whose saved form state bytes begin with, if there is one. A form of
-/// an older version has another length, and is refused.
+/// The bench whose saved form state bytes begin with, if there is one.
 fn bench_in(state: &[u8]) -> Option<Bench> {
     restore(state.get(..FORM)?).ok()
 }

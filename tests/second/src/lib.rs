@@ -3,8 +3,7 @@
 //! A [`Bench`] is loaded from a part table and fed pieces of a log; [`write()`]
 //! makes a part table; [`save`] and [`restore`] keep a bench as bytes; [`host`]
 //! has the calls of a C host. The names are the kernel's: a part is a *device*,
-//! the use count is the *usage count*, the error is the *runtime error*; delay,
-//! last busy and autosuspend have their names from there too.
+//! the use count is the *usage count*, the error is the *runtime error*.
 
 mod bench;
 mod count;
@@ -27,7 +26,7 @@ pub use bench::*;
 pub use count::counted;
 pub use feed::MAX_PIECE;
 pub use record::{FINISHED, REFUSED};
-pub use saved::{form_of, old_form_of, restore, save, Number, FORM, OLD_FORM};
+pub use saved::{form_of, restore, save, FORM};
 pub use set::Set;
 pub use table::{load, Refusal};
 pub use write::write;

@@ -35,29 +35,6 @@ impl Bench {
         Ok(self.children[self.row(device)?])
     }
 
-    /// Request Six: delay.
-    pub fn delay_of(&self, device: u8) -> Result<i16, u8> {
-        Ok(self.delay[self.row(device)?])
-    }
-
-    /// Request Six: last busy.
-    pub fn last_busy(&self, device: u8) -> Result<u32, u8> {
-        Ok(self.busy[self.row(device)?])
-    }
-
-    /// Request Six: the flag.
-    pub fn uses_autosuspend(&self, device: u8) -> Result<bool, u8> {
-        Ok(self.auto[self.row(device)?] != 0)
-    }
-
-    /// Request Six: the clock, which is no device's: 21 is the only refusal.
-    pub fn clock_time(&self) -> Result<u32, u8> {
-        if !self.sound() {
-            return Err(21);
-        }
-        Ok(self.clock)
-    }
-
     /// Document 01: wake set. Is the second device a member of the first's?
     pub fn wakes_with(&self, device: u8, second: u8) -> Result<bool, u8> {
         let row = self.row(device)?;

@@ -9,20 +9,13 @@ pub const FINISHED: u8 = 0;
 pub const REFUSED: u8 = 4;
 /// Record kind 13: a callback's result.
 const RESULT: u8 = 13;
-/// Record kind 14: a tick of the clock.
-const TICK: u8 = 14;
-/// The last record kind.
-const LAST_KIND: u8 = 18;
 
 /// Document 01: the least and greatest value allowed, by record kind.
 /// Kind 0 doesn't exist; its row is never looked at.
-const BOUNDS: [(i16, i16); LAST_KIND as usize + 1] = {
-    let mut bounds = [(0, 0); LAST_KIND as usize + 1];
+const BOUNDS: [(i16, i16); 14] = {
+    let mut bounds = [(0, 0); 14];
     bounds[12] = (0, 1);
     bounds[13] = (-4_095, 0);
-    bounds[14] = (0, 32_767);
-    bounds[16] = (-32_768, 32_767);
-    bounds[17] = (0, 1);
     bounds
 };
 
@@ -62,20 +55,13 @@ impl Bench {
             Some(-EAGAIN)
         } else if self.children[device] > 0 && self.ignore[device] == 0 {
             Some(-EBUSY)
-        } else if self.auto[device] != 0 && self.delay[device] < 0 {
-            Some(-EAGAIN)
         } else {
             None
         }
     }
 
-    /// Request Six: is it too early for an autosuspend? Only where the flag is set.
-    fn unexpired(&self, device: usize) -> bool {
-        self.auto[device] != 0 && self.expiry(device) > i64::from(self.clock)
-    }
-
     /// Has the device an error, or is it disabled?
-    pub fn unfit(&self, device: usize) -> bool {
+    pub(crate) fn unfit(&self, device: usize) -> bool {
         self.error[device] != 0 || self.depth[device] > 0
     }
 }
@@ -107,7 +93,7 @@ impl<'a> Keeper<'a> {
             return [REFUSED, part, number, 0];
         }
         let device = usize::from(part);
-        if ![RESULT, TICK].contains(&kind) && self.bench.callback != NO_CALLBACK {
+        if kind != RESULT && self.bench.callback != NO_CALLBACK {
             return finished(device, -EINPROGRESS);
         }
         self.request(kind, device, value)
@@ -115,10 +101,10 @@ impl<'a> Keeper<'a> {
 
     /// Document 01: refusals 11 to 15, in numeric order.
     fn refusal(&self, kind: u8, part: u8, value: i16) -> Option<u8> {
-        if !(1..=LAST_KIND).contains(&kind) {
+        if !(1..=RESULT).contains(&kind) {
             return Some(11);
         }
-        if part >= self.bench.n || (kind == TICK && part != 0) {
+        if part >= self.bench.n {
             return Some(12);
         }
         let (least, greatest) = BOUNDS[usize::from(kind)];
@@ -148,12 +134,7 @@ impl<'a> Keeper<'a> {
             10 => self.set_active(device),
             11 => self.set_suspended(device),
             12 => self.ignore_children(device, value),
-            RESULT => self.result(value),
-            TICK => self.tick(value),
-            15 => self.mark_busy(device),
-            16 => self.set_delay(device, value),
-            17 => self.use_autosuspend(device, value),
-            _ => self.autosuspend(device),
+            _ => self.result(value),
         }
     }
 
@@ -381,44 +362,6 @@ impl<'a> Keeper<'a> {
         }
         bench.ignore[device] = u8::from(value != 0);
         finished(device, 0)
-    }
-
-    /// Kind 14, tick. It stands for the whole bench and names part 0.
-    fn tick(&mut self, value: i16) -> [u8; 4] {
-        match self.bench.clock.checked_add(value.unsigned_abs().into()) {
-            Some(clock) => {
-                self.bench.clock = clock;
-                finished(0, 0)
-            }
-            None => finished(0, -EOVERFLOW),
-        }
-    }
-
-    /// Kind 15, mark busy.
-    fn mark_busy(&mut self, device: usize) -> [u8; 4] {
-        self.bench.busy[device] = self.bench.clock;
-        finished(device, 0)
-    }
-
-    /// Kind 16, set delay.
-    fn set_delay(&mut self, device: usize, value: i16) -> [u8; 4] {
-        self.bench.delay[device] = value;
-        finished(device, 0)
-    }
-
-    /// Kind 17, use autosuspend.
-    fn use_autosuspend(&mut self, device: usize, value: i16) -> [u8; 4] {
-        self.bench.auto[device] = u8::from(value != 0);
-        finished(device, 0)
-    }
-
-    /// Kind 18, autosuspend: kind 8, but an active device waits for its expiry.
-    fn autosuspend(&mut self, device: usize) -> [u8; 4] {
-        let passed = self.bench.suspend_test(device).is_none();
-        if passed && self.bench.status[device] == ACTIVE && self.bench.unexpired(device) {
-            return finished(device, -EAGAIN);
-        }
-        self.suspend(device)
     }
 
     /// Kind 13, result, for the device asked.

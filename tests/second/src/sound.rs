@@ -3,12 +3,10 @@
 use crate::bench::*;
 use crate::table::{ascends, device_entry_good, link_entry_good};
 use crate::wake::Sets;
-use std::ops::BitOr;
 
 /// Is every value zero? Without an early end several are looked at at once.
-fn all_zero<T: Copy + Default + PartialEq + BitOr<Output = T>>(values: &[T]) -> bool {
-    let zero = T::default();
-    values.iter().fold(zero, |any, &value| any | value) == zero
+fn all_zero<T: Copy + Into<u16>>(values: &[T]) -> bool {
+    values.iter().fold(0, |any, &value| any | value.into()) == 0
 }
 
 impl Bench {
@@ -68,22 +66,17 @@ impl Bench {
             && all_zero(&self.error[n..])
             && all_zero(&self.children[n..])
             && all_zero(&self.linked[n..])
-            && all_zero(&self.delay[n..])
-            && all_zero(&self.busy[n..])
-            && all_zero(&self.auto[n..])
             && all_zero(&self.consumer[m..])
             && all_zero(&self.supplier[m..])
             && all_zero(&self.flags[m..])
     }
 
-    /// Status, holds, error and flag lie in range; the disable depth, the delay,
-    /// last busy and the clock always do.
+    /// Status, holds and error lie in range; the disable depth always does.
     fn ranges_sound(&self) -> bool {
         self.devices().all(|device| {
             self.status[device] <= SUSPENDING
                 && self.holds[device] <= MAX_HOLDS
                 && self.error[device] <= MAX_ERROR
-                && self.auto[device] <= 1
         })
     }
 

@@ -231,7 +231,7 @@ fn records_refused() {
     let before = bench.clone();
     let cases = [
         ([0, 9, 9, 9], 11),
-        ([19, 0, 0, 0], 11),
+        ([14, 0, 0, 0], 11),
         ([1, 3, 9, 9], 12),
         ([1, 2, 1, 0], 13),
         ([12, 2, 2, 0], 13),
@@ -251,7 +251,7 @@ fn while_a_callback_is_open() {
     let mut bench = lone_bench();
     send(&mut bench, 4, 0, 0);
     let before = bench.clone();
-    for kind in (1..=12).chain(15..=18) {
+    for kind in 1..=12 {
         finishes(&mut bench, kind, 0, 0, -115);
         assert_eq!(send(&mut bench, kind, 1, 0), [REFUSED, 1, 12, 0]);
     }
@@ -610,17 +610,10 @@ fn a_status_is_set_only_of_a_disabled_or_failed_device() {
 #[test]
 fn values_at_their_bounds() {
     for (kind, least, greatest) in (1..=11)
-        .chain([15, 18])
         .map(|kind| (kind, 0, 0))
-        .chain([(12, 0, 1), (13, -4_095, 0), (14, 0, i16::MAX)])
-        .chain([(16, i16::MIN, i16::MAX), (17, 0, 1)])
+        .chain([(12, 0, 1), (13, -4_095, 0)])
     {
-        let beyond = [least.checked_sub(1), greatest.checked_add(1)];
-        let ends = [i16::MIN, i16::MAX].map(Some);
-        for value in beyond.into_iter().chain(ends).flatten() {
-            if (least..=greatest).contains(&value) {
-                continue;
-            }
+        for value in [least - 1, greatest + 1, i16::MIN, i16::MAX] {
             let mut bench = lone_bench();
             assert_eq!(send(&mut bench, kind, 0, value), [REFUSED, 0, 13, 0]);
         }
@@ -1043,7 +1036,7 @@ fn loaded_bench() {
 
 #[test]
 fn unsound_benches() {
-    let spoilers: [fn(&mut Bench); 18] = [
+    let spoilers: [fn(&mut Bench); 14] = [
         |bench| bench.n = 2,
         |bench| bench.m = 0,
         |bench| bench.parent[5] = 255,
@@ -1058,10 +1051,6 @@ fn unsound_benches() {
         |bench| bench.callback = IDLE_CALLBACK,
         |bench| bench.carried[0] = 1,
         |bench| bench.count = 4,
-        |bench| bench.auto[0] = 2,
-        |bench| bench.auto[3] = 1,
-        |bench| bench.delay[3] = 1,
-        |bench| bench.busy[255] = 1,
     ];
     for spoil in spoilers {
         let mut bench = day_bench();
@@ -1110,7 +1099,7 @@ fn cuts_do_not_matter() {
 
 /// The form of a bench with these bytes at these offsets, and 0 at all others.
 fn form_with(places: &[(usize, &[u8])]) -> Vec<u8> {
-    let mut form = vec![0; 7_061];
+    let mut form = vec![0; 4_753];
     for (at, bytes) in places {
         form[*at..at + bytes.len()].copy_from_slice(bytes);
     }
@@ -1120,14 +1109,14 @@ fn form_with(places: &[(usize, &[u8])]) -> Vec<u8> {
 #[test]
 fn the_saved_day() {
     let loaded = form_with(&[
-        (0, b"TWS\x02\x00"),
+        (0, b"TWS\x01\x00"),
         (5, &[255, 255, 0]),
         (773, &[1, 1, 1]),
-        (1541, &[2]),
-        (1669, &[1]),
-        (1797, &[1]),
-        (1925, &[3]),
-        (7053, &[1]),
+        (1285, &[2]),
+        (1413, &[1]),
+        (1541, &[1]),
+        (1669, &[3]),
+        (4749, &[1]),
     ]);
     let mut bench = day_bench();
     assert_eq!(save(&bench), Ok(loaded));
@@ -1137,23 +1126,19 @@ fn the_saved_day() {
     }
     assert_eq!(bench.feed(&[0x0D, 0x01], &mut []), Ok(0));
     let waking = form_with(&[
-        (0, b"TWS\x02\x00"),
+        (0, b"TWS\x01\x00"),
         (5, &[255, 255, 0]),
         (517, &[ACTIVE, RESUMING, SUSPENDED]),
-        (1541, &[2]),
-        (1669, &[1]),
-        (1797, &[1]),
-        (1925, &[3]),
-        (1926, &[RESUME_CALLBACK, 1, 2]),
-        (1929, &[2, 0x0D, 0x01]),
-        (1933 + 4 * 2, &[1]),
-        (7053, &[1]),
+        (1285, &[2]),
+        (1413, &[1]),
+        (1541, &[1]),
+        (1669, &[3]),
+        (1670, &[RESUME_CALLBACK, 1, 2]),
+        (1673, &[2, 0x0D, 0x01]),
+        (1677 + 4 * 2, &[1]),
+        (4749, &[1]),
     ]);
     assert_eq!(save(&bench), Ok(waking));
-}
-
-#[test]
-fn the_saved_day_with_all_awake() {
     // All are awake; the bus ignores its child, the converter has an error and many holds.
     let mut bench = day_bench();
     for (record, _) in DAY {
@@ -1163,30 +1148,21 @@ fn the_saved_day_with_all_awake() {
     bench.depth[1] = 255;
     bench.error[2] = 0x0FFE;
     bench.holds[2] = 0x7FFE;
-    bench.delay[..3].copy_from_slice(&[0x1234, -2, i16::MIN]);
-    bench.busy[..3].copy_from_slice(&[1, 0x1234_5678, u32::MAX]);
-    bench.auto[2] = 1;
-    bench.clock = 0xFEDC_BA98;
     let awake = form_with(&[
-        (0, b"TWS\x02\x00"),
+        (0, b"TWS\x01\x00"),
         (5, &[255, 255, 0]),
         (261, &[1, 0, 0]),
         (517, &[ACTIVE; 3]),
         (773, &[0, 255, 0]),
         (1029, &[1, 0, 0]),
-        (1541, &[2]),
-        (1669, &[1]),
-        (1797, &[1]),
-        (1925, &[3]),
-        (1933 + 4 * 2, &[0xFE, 0x7F, 0, 0]),
-        (2957 + 4 * 2, &[0xFE, 0x0F, 0, 0]),
-        (3981 + 4, &[1, 0, 0, 0]),
-        (1285, &[0, 0, 1]),
-        (5005, &[0x34, 0x12, 0, 0, 0xFE, 0xFF, 0, 0, 0, 0x80, 0, 0]),
-        (6029, &[1, 0, 0, 0, 0x78, 0x56, 0x34, 0x12]),
-        (6037, &[0xFF; 4]),
-        (7053, &[1]),
-        (7057, &[0x98, 0xBA, 0xDC, 0xFE]),
+        (1285, &[2]),
+        (1413, &[1]),
+        (1541, &[1]),
+        (1669, &[3]),
+        (1677 + 4 * 2, &[0xFE, 0x7F, 0, 0]),
+        (2701 + 4 * 2, &[0xFE, 0x0F, 0, 0]),
+        (3725 + 4, &[1, 0, 0, 0]),
+        (4749, &[1]),
     ]);
     assert_eq!(save(&bench), Ok(awake));
 }
@@ -1200,19 +1176,13 @@ fn the_last_rows_are_saved() {
         finishes(&mut bench, 10, device, 0, 0);
     }
     bench.holds[63] = 0x0102;
-    bench.auto[63] = 1;
-    bench.delay[63] = 0x0304;
-    bench.busy[63] = 0x0506_0708;
     let form = save(&bench).unwrap();
-    assert_eq!(form[1285 + 63], 1);
-    assert_eq!(form[1541 + 124..1669], [63, 0, 0, 0]);
-    assert_eq!(form[1669 + 124..1797], [62, 0, 0, 0]);
-    assert_eq!(form[1797 + 124..1925], [3, 0, 0, 0]);
-    assert_eq!(form[1933 + 4 * 63..][..4], [2, 1, 0, 0]);
-    assert_eq!(form[3981..][..8], [63, 0, 0, 0, 1, 0, 0, 0]);
-    assert_eq!(form[5005 + 4 * 63..][..4], [4, 3, 0, 0]);
-    assert_eq!(form[6029 + 4 * 63..][..4], [8, 7, 6, 5]);
-    assert_eq!(form[7053..], [125, 0, 0, 0, 0, 0, 0, 0]);
+    assert_eq!(form[1285 + 124..1413], [63, 0, 0, 0]);
+    assert_eq!(form[1413 + 124..1541], [62, 0, 0, 0]);
+    assert_eq!(form[1541 + 124..1669], [3, 0, 0, 0]);
+    assert_eq!(form[1677 + 4 * 63..][..4], [2, 1, 0, 0]);
+    assert_eq!(form[3725..][..8], [63, 0, 0, 0, 1, 0, 0, 0]);
+    assert_eq!(form[4749..], [125, 0, 0, 0]);
     assert_eq!(restore(&form), Ok(bench));
 }
 
@@ -1231,9 +1201,9 @@ fn what_is_saved_is_restored() {
             let mut bench = start.clone();
             bench.feed(&record[..carried], &mut []).unwrap();
             let form = save(&bench).unwrap();
-            assert_eq!(form[1926], start.callback);
-            assert_eq!(usize::from(form[1929]), carried);
-            assert_eq!(form[1930..1930 + carried], record[..carried]);
+            assert_eq!(form[1670], start.callback);
+            assert_eq!(usize::from(form[1673]), carried);
+            assert_eq!(form[1674..1674 + carried], record[..carried]);
             let mut again = restore(&form).unwrap();
             assert_eq!(again, bench);
             let (mut reply, mut right) = ([0; 4], [0; 4]);
@@ -1256,14 +1226,14 @@ fn an_unsound_bench_is_not_saved() {
 #[test]
 fn forms_refused_in_order() {
     let form = save(&day_bench()).unwrap();
-    assert_eq!((form.len(), FORM), (7_061, 7_061));
+    assert_eq!(form.len(), 4_753);
     // Every fault of a later number is there as well.
     let mut bad = form.clone();
-    bad[1925] = 0;
+    bad[1669] = 0;
     assert_eq!(restore(&bad), Err(21));
     bad.push(0);
     assert_eq!(restore(&bad), Err(5));
-    for version in [[0, 0], [3, 0], [0, 1], [1, 1], [2, 1], [255, 255]] {
+    for version in [[0, 0], [2, 0], [0, 1], [1, 1]] {
         bad[3..5].copy_from_slice(&version);
         assert_eq!(restore(&bad), Err(3));
     }
@@ -1285,11 +1255,8 @@ fn forms_refused_in_order() {
 #[test]
 fn values_beyond_their_fields_are_refused() {
     let form = save(&day_bench()).unwrap();
-    // The third and the fourth byte of holds, error, links and delay of a device, and the upper ones
-    // of m.
-    for at in [
-        1935, 1936, 2959, 2960, 3983, 3984, 5007, 5008, 7054, 7055, 7056,
-    ] {
+    // The third and the fourth byte of holds, error and links of a device, and the upper ones of m.
+    for at in [1679, 1680, 2703, 2704, 3727, 3728, 4750, 4751, 4752] {
         let mut bad = form.clone();
         bad[at] = 1;
         assert_eq!(restore(&bad), Err(21));
@@ -1390,7 +1357,7 @@ fn wake_sets_of_a_c_host() {
             assert_eq!(host::ask(&state, 0, second, part), -24);
         }
     }
-    for question in [12, 13, 255, 256, 260, 266, 65_536, 1 << 31, u32::MAX] {
+    for question in [6, 7, 255, 256, 260, 65_536, 1 << 31, u32::MAX] {
         assert_eq!(host::ask(&state, question, 0, 0), -24);
     }
 }
@@ -1407,16 +1374,16 @@ fn a_c_host_is_refused_in_order() {
         }
     }
     let mut version = day.clone();
-    version[3] = 3;
+    version[3] = 2;
     let mut unsound = day.clone();
-    unsound[1925] = 0;
+    unsound[1669] = 0;
     for bad in [&day[..FORM - 1], &day[1..], &version, &unsound, &[]] {
         for (piece, room) in [(0, 0), (4, 4), (4_097, 5_000), (4_097, 0)] {
             let (mut state, mut replies) = (bad.to_vec(), vec![0xAA; room]);
             assert_eq!(host::feed(&mut state, &vec![1; piece], &mut replies), -21);
             assert_eq!((&state[..], replies), (bad, vec![0xAA; room]));
         }
-        for (question, part) in [(0, 0), (12, 0), (0, 3), (4, u32::MAX), (10, 0)] {
+        for (question, part) in [(0, 0), (6, 0), (0, 3), (4, u32::MAX)] {
             assert_eq!(host::ask(bad, question, part, 0), -21);
         }
     }
@@ -1427,448 +1394,6 @@ fn a_c_host_is_refused_in_order() {
             -number
         );
         assert_eq!((state, replies), (day.clone(), vec![0xAA; room]));
-    }
-}
-
-/// One device, awake, that uses autosuspend: its last busy, its delay and the clock.
-fn timed_bench(busy: u32, delay: i16, clock: u32) -> Bench {
-    let mut bench = awake_bench();
-    bench.auto[0] = 1;
-    (bench.busy[0], bench.delay[0], bench.clock) = (busy, delay, clock);
-    assert!(bench.sound());
-    bench
-}
-
-#[test]
-fn loaded_without_autosuspend() {
-    let bench = day_bench();
-    assert_eq!(bench.clock, 0);
-    assert_eq!((bench.delay, bench.busy), ([0; 256], [0; 256]));
-    assert_eq!(bench.auto, [0; 256]);
-}
-
-#[test]
-fn the_clock_at_its_ends() {
-    let mut bench = lone_bench();
-    for (value, clock) in [(0, 0), (1, 1), (32_767, 32_768), (250, 33_018)] {
-        finishes(&mut bench, 14, 0, value, 0);
-        assert_eq!(bench.clock, clock);
-    }
-    for (clock, value, code, after) in [
-        (u32::MAX - 32_767, 32_767, 0, u32::MAX),
-        (u32::MAX - 32_766, 32_767, -75, u32::MAX - 32_766),
-        (u32::MAX - 1, 1, 0, u32::MAX),
-        (u32::MAX, 0, 0, u32::MAX),
-        (u32::MAX, 1, -75, u32::MAX),
-        (u32::MAX, 32_767, -75, u32::MAX),
-    ] {
-        bench.clock = clock;
-        let mut right = bench.clone();
-        right.clock = after;
-        finishes(&mut bench, 14, 0, value, code);
-        assert_eq!(bench, right);
-    }
-}
-
-#[test]
-fn a_tick_while_a_callback_is_open() {
-    // Suspend, resume and idle.
-    for (mut bench, kind) in [(awake_bench(), 8), (lone_bench(), 9), (awake_bench(), 7)] {
-        send(&mut bench, kind, 0, 0);
-        assert_ne!(bench.callback, NO_CALLBACK);
-        let mut right = bench.clone();
-        finishes(&mut bench, 14, 0, 250, 0);
-        right.clock = 250;
-        assert_eq!(bench, right);
-        bench.clock = u32::MAX;
-        right.clock = u32::MAX;
-        finishes(&mut bench, 14, 0, 1, -75);
-        finishes(&mut bench, 14, 0, 0, 0);
-        assert_eq!(bench, right);
-    }
-}
-
-#[test]
-fn a_tick_names_part_0() {
-    let mut bench = day_bench();
-    let before = bench.clone();
-    for part in [1, 2, 3, 64, 255] {
-        for value in [0, 1, -1, i16::MIN] {
-            assert_eq!(send(&mut bench, 14, part, value), [REFUSED, part, 12, 0]);
-        }
-    }
-    for value in [-1, i16::MIN] {
-        assert_eq!(send(&mut bench, 14, 0, value), [REFUSED, 0, 13, 0]);
-    }
-    assert_eq!(bench, before);
-    // Also while a callback is open.
-    finishes(&mut bench, 1, 0, 0, 0);
-    assert_eq!(send(&mut bench, 9, 0, 0), [2, 0, 0, 0]);
-    assert_eq!(send(&mut bench, 14, 1, 0), [REFUSED, 1, 12, 0]);
-    assert_eq!(send(&mut bench, 14, 0, -1), [REFUSED, 0, 13, 0]);
-}
-
-#[test]
-fn busy_delay_and_flag_are_set() {
-    // Of a disabled and failed device, held, of which nothing is looked at.
-    let mut bench = day_bench();
-    (bench.error[2], bench.depth[2], bench.holds[2]) = (5, 255, 1);
-    bench.clock = 70_000;
-    let mut right = bench.clone();
-    finishes(&mut bench, 15, 2, 0, 0);
-    right.busy[2] = 70_000;
-    assert_eq!(bench, right);
-    for delay in [i16::MIN, -1, 0, 1, 999, 1_000, i16::MAX] {
-        finishes(&mut bench, 16, 2, delay, 0);
-        right.delay[2] = delay;
-        assert_eq!(bench, right);
-    }
-    for flag in [1, 1, 0, 0] {
-        finishes(&mut bench, 17, 2, flag, 0);
-        right.auto[2] = flag as u8;
-        assert_eq!(bench, right);
-    }
-    // Last busy goes back to the clock.
-    bench.busy[2] = u32::MAX;
-    finishes(&mut bench, 15, 2, 0, 0);
-    assert_eq!(bench, right);
-}
-
-#[test]
-fn expiries() {
-    for (busy, delay, expiry) in [
-        (0, 0, 0),
-        (7, 0, 7),
-        (1, 999, 1_000),
-        (2, 999, 1_001),
-        (0, 1_000, 1_000),
-        (1, 1_000, 2_000),
-        (999, 1_001, 2_000),
-        (0, 1_001, 2_000),
-        (1_000, 1_000, 2_000),
-        (500, 1_500, 2_000),
-        (501, 1_500, 3_000),
-        (234, 32_766, 33_000),
-        (234, 32_767, 34_000),
-        (u32::MAX, 0, 4_294_967_295),
-        (u32::MAX, 999, 4_294_968_294),
-        (u32::MAX, 1_000, 4_294_969_000),
-        (u32::MAX, 32_767, 4_295_001_000),
-    ] {
-        let bench = timed_bench(busy, delay, 0);
-        assert_eq!(bench.expiry(0), expiry);
-    }
-}
-
-#[test]
-fn autosuspend_begins_at_the_expiry() {
-    for (busy, delay, expiry) in [
-        (5_000, 0, 5_000),
-        (5_001, 999, 6_000),
-        (5_000, 1_000, 6_000),
-        (5_001, 1_000, 7_000),
-        (5_000, 1_001, 7_000),
-        (4_999, 1_001, 6_000),
-        (5_000, 32_767, 38_000),
-        (u32::MAX - 999, 999, u32::MAX),
-        (4_294_965_000, 2_000, 4_294_967_000),
-    ] {
-        let mut bench = timed_bench(busy, delay, expiry - 1);
-        let before = bench.clone();
-        finishes(&mut bench, 18, 0, 0, -11);
-        assert_eq!(bench, before);
-        // Kinds 7 and 8 do not wait.
-        assert_eq!(before.clone().record([8, 0, 0, 0]), [1, 0, 0, 0]);
-        assert_eq!(before.clone().record([7, 0, 0, 0]), [3, 0, 0, 0]);
-        finishes(&mut bench, 14, 0, 1, 0);
-        assert_eq!(send(&mut bench, 18, 0, 0), [1, 0, 0, 0]);
-        assert_eq!(bench.status[0], SUSPENDING);
-        assert_eq!((bench.asked, bench.target), (0, 0));
-        finishes(&mut bench, 13, 0, 0, 0);
-        finishes(&mut bench, 18, 0, 0, 1);
-        if let Some(later) = expiry.checked_add(1) {
-            let mut bench = timed_bench(busy, delay, later);
-            assert_eq!(send(&mut bench, 18, 0, 0), [1, 0, 0, 0]);
-        }
-    }
-}
-
-#[test]
-fn an_expiry_past_the_end_is_never_reached() {
-    for (busy, delay) in [
-        (u32::MAX, 1),
-        (u32::MAX, 32_767),
-        (4_294_966_001, 1_000),
-        (u32::MAX - 999, 1_000),
-        (u32::MAX - 32_766, 32_767),
-    ] {
-        let mut bench = timed_bench(busy, delay, u32::MAX);
-        assert!(bench.expiry(0) > u32::MAX.into());
-        finishes(&mut bench, 18, 0, 0, -11);
-        // In 32 bits it would lie before this clock.
-        bench.clock = 100_000;
-        finishes(&mut bench, 18, 0, 0, -11);
-        finishes(&mut bench, 17, 0, 0, 0);
-        assert_eq!(send(&mut bench, 18, 0, 0), [1, 0, 0, 0]);
-    }
-}
-
-#[test]
-fn a_negative_delay_with_the_flag() {
-    for delay in [-1, -1_000, i16::MIN] {
-        for status in [ACTIVE, SUSPENDED] {
-            let mut bench = timed_bench(0, delay, u32::MAX);
-            bench.status[0] = status;
-            let before = bench.clone();
-            for kind in [7, 8, 18] {
-                finishes(&mut bench, kind, 0, 0, -11);
-                assert_eq!(bench, before);
-            }
-            bench.holds[0] = 1;
-            finishes(&mut bench, 6, 0, 0, -11);
-            assert_eq!(bench, before);
-            // Without the flag it has no effect.
-            bench.auto[0] = 0;
-            if status == SUSPENDED {
-                finishes(&mut bench, 8, 0, 0, 1);
-                finishes(&mut bench, 18, 0, 0, 1);
-            } else {
-                assert_eq!(bench.clone().record([7, 0, 0, 0]), [3, 0, 0, 0]);
-                assert_eq!(bench.clone().record([8, 0, 0, 0]), [1, 0, 0, 0]);
-                assert_eq!(bench.record([18, 0, 0, 0]), [1, 0, 0, 0]);
-            }
-        }
-    }
-    // A wake, a get and a status that is set do not look at it.
-    let mut bench = timed_bench(0, -1, 0);
-    finishes(&mut bench, 9, 0, 0, 1);
-    finishes(&mut bench, 2, 0, 0, 0);
-    finishes(&mut bench, 11, 0, 0, 0);
-    finishes(&mut bench, 1, 0, 0, 0);
-    assert_eq!(send(&mut bench, 9, 0, 0), [2, 0, 0, 0]);
-}
-
-#[test]
-fn the_autosuspend_test_comes_in_order() {
-    // Error, depth, use count and children come before the delay.
-    let mut bench = running_bench();
-    (bench.error[0], bench.depth[0], bench.holds[0]) = (5, 1, 1);
-    (bench.auto[0], bench.delay[0]) = (1, -1);
-    finishes(&mut bench, 18, 0, 0, -22);
-    bench.error[0] = 0;
-    finishes(&mut bench, 18, 0, 0, -13);
-    bench.depth[0] = 0;
-    finishes(&mut bench, 18, 0, 0, -11);
-    bench.holds[0] = 0;
-    for kind in [7, 8, 18] {
-        finishes(&mut bench, kind, 0, 0, -16);
-    }
-    bench.delay[0] = i16::MAX;
-    finishes(&mut bench, 18, 0, 0, -16);
-    finishes(&mut bench, 12, 0, 1, 0);
-    finishes(&mut bench, 18, 0, 0, -11);
-    assert_eq!(send(&mut bench, 8, 0, 0), [1, 0, 0, 0]);
-    // A suspended device answers 1, however late its expiry is; a bad one its own code.
-    let mut bench = timed_bench(u32::MAX, i16::MAX, 0);
-    bench.status[0] = SUSPENDED;
-    finishes(&mut bench, 18, 0, 0, 1);
-    bench.depth[0] = 1;
-    finishes(&mut bench, 18, 0, 0, -13);
-    bench.error[0] = 5;
-    finishes(&mut bench, 18, 0, 0, -22);
-}
-
-#[test]
-fn without_the_flag_no_expiry() {
-    for (busy, delay, clock) in [(u32::MAX, 32_767, 0), (1, 0, 0), (0, -1, 0)] {
-        let mut bench = timed_bench(busy, delay, clock);
-        bench.auto[0] = 0;
-        assert_eq!(send(&mut bench, 18, 0, 0), [1, 0, 0, 0]);
-    }
-}
-
-#[test]
-fn idle_goes_on_to_suspend_before_the_expiry() {
-    let mut bench = timed_bench(5_000, 1_000, 0);
-    finishes(&mut bench, 18, 0, 0, -11);
-    assert_eq!(send(&mut bench, 7, 0, 0), [3, 0, 0, 0]);
-    assert_eq!(send(&mut bench, 13, 0, 0), [1, 0, 0, 0]);
-    finishes(&mut bench, 13, 0, 0, 0);
-    assert_eq!(bench.status[0], SUSPENDED);
-}
-
-#[test]
-fn last_busy_past_the_clock_in_a_restored_bench() {
-    for busy in [1, 32_767, 4_294_967_000, u32::MAX] {
-        let bench = timed_bench(busy, 0, 0);
-        let mut again = restore(&save(&bench).unwrap()).unwrap();
-        assert_eq!(again, bench);
-        finishes(&mut again, 18, 0, 0, -11);
-        finishes(&mut again, 15, 0, 0, 0);
-        assert_eq!(again.busy[0], 0);
-        assert_eq!(send(&mut again, 18, 0, 0), [1, 0, 0, 0]);
-    }
-}
-
-#[test]
-fn an_open_callback_passes_the_whole_suspend_test() {
-    for (kind, sound) in [(7, false), (8, false), (9, true)] {
-        let mut bench = if kind == 9 {
-            lone_bench()
-        } else {
-            awake_bench()
-        };
-        send(&mut bench, kind, 0, 0);
-        bench.delay[0] = -1;
-        assert!(bench.sound());
-        bench.auto[0] = 1;
-        assert_eq!(bench.sound(), sound);
-        assert_eq!(restore(&form_of(&bench)).is_ok(), sound);
-        // An expiry that is not reached does no harm.
-        (bench.delay[0], bench.busy[0]) = (i16::MAX, u32::MAX);
-        assert!(bench.sound());
-    }
-}
-
-#[test]
-fn times_of_a_sound_bench() {
-    for (busy, delay, clock) in [
-        (u32::MAX, i16::MIN, 0),
-        (0, -1, u32::MAX),
-        (u32::MAX, i16::MAX, u32::MAX),
-    ] {
-        let bench = timed_bench(busy, delay, clock);
-        assert_eq!(bench.delay_of(0), Ok(delay));
-        assert_eq!(bench.last_busy(0), Ok(busy));
-        assert_eq!(bench.uses_autosuspend(0), Ok(true));
-        assert_eq!(bench.clock_time(), Ok(clock));
-    }
-    let bench = day_bench();
-    assert_eq!(bench.delay_of(3), Err(24));
-    assert_eq!(bench.last_busy(3), Err(24));
-    assert_eq!(bench.uses_autosuspend(255), Err(24));
-    let empty = Bench::empty();
-    assert_eq!(empty.delay_of(0), Err(21));
-    assert_eq!(empty.last_busy(0), Err(21));
-    assert_eq!(empty.uses_autosuspend(0), Err(21));
-    assert_eq!(empty.clock_time(), Err(21));
-}
-
-#[test]
-fn version_1_is_read_with_zeros() {
-    let mut bench = day_bench();
-    for (record, _) in &DAY[..5] {
-        bench.record(*record);
-    }
-    bench.feed(&[0x0D, 0x01], &mut []).unwrap();
-    let mut old = vec![0; 4_753];
-    for (at, bytes) in [
-        (0, &b"TWS\x01\x00"[..]),
-        (5, &[255, 255, 0]),
-        (517, &[ACTIVE, RESUMING, SUSPENDED]),
-        (1285, &[2]),
-        (1413, &[1]),
-        (1541, &[1]),
-        (1669, &[3]),
-        (1670, &[RESUME_CALLBACK, 1, 2]),
-        (1673, &[2, 0x0D, 0x01]),
-        (1677 + 4 * 2, &[1]),
-        (4749, &[1]),
-    ] {
-        old[at..at + bytes.len()].copy_from_slice(bytes);
-    }
-    assert_eq!((old_form_of(&bench), OLD_FORM), (old.clone(), 4_753));
-    assert_eq!(restore(&old), Ok(bench.clone()));
-    // What it has no place for is left out.
-    let mut timed = bench.clone();
-    (timed.delay[0], timed.busy[1], timed.auto[2]) = (-1, u32::MAX, 1);
-    timed.clock = 5;
-    assert_eq!(old_form_of(&timed), old);
-    assert_eq!(restore(&save(&timed).unwrap()), Ok(timed));
-}
-
-#[test]
-fn forms_of_version_1_refused_in_order() {
-    let old = old_form_of(&day_bench());
-    for length in 0..old.len() {
-        let number = if length < 5 { 1 } else { 5 };
-        assert_eq!(restore(&old[..length]), Err(number));
-    }
-    // The length of the other version.
-    let mut long = old.clone();
-    long.resize(FORM, 0);
-    assert_eq!(restore(&long), Err(5));
-    let form = save(&day_bench()).unwrap();
-    assert_eq!(restore(&form[..OLD_FORM]), Err(5));
-    for (at, value, number) in [(0, b'B', 2), (3, 0, 3), (3, 2, 5), (4, 1, 3)] {
-        let mut bad = old.clone();
-        bad[at] = value;
-        assert_eq!(restore(&bad), Err(number));
-    }
-    for (at, value) in [(1669, 0), (1669, 65), (8, 1), (1679, 1), (4752, 1)] {
-        let mut bad = old.clone();
-        bad[at] = value;
-        assert_eq!(restore(&bad), Err(21));
-    }
-}
-
-#[test]
-fn a_c_host_takes_version_2_only() {
-    let old = old_form_of(&day_bench());
-    let mut longer = old.clone();
-    longer.resize(FORM, 0);
-    let behind = [&old[..], &save(&day_bench()).unwrap()].concat();
-    let mut relabelled = day_state();
-    relabelled[3] = 1;
-    for bytes in [old, longer, behind, relabelled] {
-        let (mut state, mut replies) = (bytes.clone(), [0xAA; 8]);
-        assert_eq!(host::feed(&mut state, &[1, 0, 0, 0], &mut replies), -21);
-        assert_eq!((&state, replies), (&bytes, [0xAA; 8]));
-        assert_eq!(host::ask(&bytes, 0, 0, 0), -21);
-    }
-}
-
-#[test]
-fn times_asked_by_a_c_host() {
-    let mut bench = day_bench();
-    (bench.delay[1], bench.busy[1], bench.auto[1]) = (-2, 0xFEDC_0123, 1);
-    (bench.delay[2], bench.busy[2]) = (0x1234, 0x89AB);
-    bench.clock = 0x8001_FFFF;
-    let state = save(&bench).unwrap();
-    for (question, answers) in [
-        (6, [0, 0xFFFE, 0x1234]),
-        (7, [0, 1, 0]),
-        (8, [0, 0x0123, 0x89AB]),
-        (9, [0, 0xFEDC, 0]),
-        (10, [0xFFFF; 3]),
-        (11, [0x8001; 3]),
-    ] {
-        for (part, answer) in (0..).zip(answers) {
-            assert_eq!(host::ask(&state, question, part, u32::MAX), answer);
-        }
-        // The clock is asked of no part.
-        for part in [3, 64, 256, u32::MAX] {
-            let answer = if question < 10 { -24 } else { answers[0] };
-            assert_eq!(host::ask(&state, question, part, 0), answer);
-        }
-    }
-}
-
-#[test]
-fn every_time_is_met() {
-    let (mut random, mut tally) = (Random::new(23), Tally::default());
-    for _ in 0..3_000 {
-        line(&mut random, &mut tally);
-    }
-    let lines = tally.lines().join("\n");
-    for name in [
-        "autosuspend too early",
-        "autosuspend too early, expiry past the end",
-        "negative delay with the flag",
-        "tick past the end",
-        "tick while a callback is open",
-    ] {
-        assert!(lines.contains(&format!("  {name}: ")), "{name}");
     }
 }
 

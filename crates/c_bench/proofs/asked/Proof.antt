@@ -39,7 +39,7 @@ returns-6 : tie.Need-returns-6
 unfolding ask if◌then◌else◌
 returns-6 c = rw c.before.before.match.keys6 (c.number-code4.ensures ∙ ap told_code c.before.parents-above.ensures)
 
--- the questions about autosuspend, and any other
+-- any other question
 returns-7 : tie.Need-returns-7
 returns-7 c =
     let m = c.before in
@@ -51,7 +51,7 @@ returns-7 c =
     let n3 = r.0.0.1 in
     let n4 = r.0.1 in
     let n5 = r.1 in
-    c.asked.ensures ∙ sym (ap told_code (ask_past args.question _ args.p args.q (omega arith)))
+    c.unknown.ensures ∙ sym (ap told_code (ask_past args.question _ args.p args.q (omega arith)))
 
 pub asked_spec : {M : Type 1} → statement M
 asked_spec =

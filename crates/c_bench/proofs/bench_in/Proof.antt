@@ -27,9 +27,8 @@ unfolding FORM BYTES WORDS ROWS LINKS restore_of bench_in
 returns-2 c =
     let done = c.before.before in
     let read = done.read in
-    let tested = done.before.before in
-    let start = tested.before.before in
-    record { judged = read_judged _ read.result read.ensures ∙ sym (bench_in_lem start.args.state.now tested.if1.false) }
+    let start = done.before.before.before.before in
+    record { judged = read_judged _ read.result read.ensures ∙ sym (bench_in_lem start.args.state.now) }
 
 pub bench_in_spec : {M : Type 1} → statement M
 bench_in_spec =

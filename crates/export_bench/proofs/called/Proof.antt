@@ -53,33 +53,13 @@ returns-12 : tie.Need-returns-12
 unfolding method_of methods
 returns-12 c = rw c.before.match.keys12 c.ignore-children.ensures
 
-returns-13 : tie.Need-returns-13
-unfolding method_of methods
-returns-13 c = rw c.before.match.keys13 c.tick.ensures
-
-returns-14 : tie.Need-returns-14
-unfolding method_of methods
-returns-14 c = rw c.before.match.keys14 c.mark-busy.ensures
-
-returns-15 : tie.Need-returns-15
-unfolding method_of methods
-returns-15 c = rw c.before.match.keys15 c.set-delay.ensures
-
-returns-16 : tie.Need-returns-16
-unfolding method_of methods
-returns-16 c = rw c.before.match.keys16 c.use-autosuspend.ensures
-
-returns-17 : tie.Need-returns-17
-unfolding method_of methods
-returns-17 c = rw c.before.match.keys17 c.autosuspend.ensures
-
 -- any other kind
-returns-18 : tie.Need-returns-18
+returns-13 : tie.Need-returns-13
 unfolding Passed
-returns-18 c =
+returns-13 c =
     let args = c.before.before.args in
     let r = c.before.match.rest in
-    rw (last_called args.kind args.p args.v (λ l. past _ args.kind 1 12 l r.0.0.0.0.0) (λ l. past _ args.kind 14 5 l r)) c.result.ensures
+    rw (last_called args.kind args.p args.v (λ l. past args.kind 1 12 l r)) c.result.ensures
 
 pub called_spec : {M : Type 1} → statement M
 called_spec =
@@ -98,10 +78,4 @@ called_spec =
     (λ c κs. search rules)
     (λ c κs. search rules)
     (λ c κs. search rules)
-    (λ c κs. search rules)
-    (λ c κs. search rules)
-    (λ c κs. search rules)
-    (λ c κs. search rules)
-    (λ c κs. search rules)
-    returns returns-2 returns-3 returns-4 returns-5 returns-6 returns-7 returns-8 returns-9 returns-10 returns-11 returns-12 returns-13
-    returns-14 returns-15 returns-16 returns-17 returns-18)
+    returns returns-2 returns-3 returns-4 returns-5 returns-6 returns-7 returns-8 returns-9 returns-10 returns-11 returns-12 returns-13)

@@ -28,29 +28,13 @@ returns-5 : tie.Need-returns-5
 unfolding asked_of answers_about
 returns-5 c = rw c.before.before.match.keys5 (c.number-code4.ensures ∙ ap told_code c.before.parents-above.ensures)
 
-returns-6 : tie.Need-returns-6
-unfolding asked_of answers_about
-returns-6 c = rw c.before.before.match.keys6 (c.number-code5.ensures ∙ ap told_code c.before.autosuspend-delay.ensures)
-
-returns-7 : tie.Need-returns-7
-unfolding asked_of answers_about
-returns-7 c = rw c.before.before.match.keys7 (c.number-code6.ensures ∙ ap told_code c.before.last-busy.ensures)
-
-returns-8 : tie.Need-returns-8
-unfolding asked_of answers_about
-returns-8 c = rw c.before.before.match.keys8 (c.number-code7.ensures ∙ ap told_code c.before.uses-autosuspend.ensures)
-
-returns-9 : tie.Need-returns-9
-unfolding asked_of answers_about
-returns-9 c = rw c.before.before.match.keys9 (c.number-code8.ensures ∙ ap told_code c.before.clock.ensures)
-
 -- the wake set
-returns-10 : tie.Need-returns-10
+returns-6 : tie.Need-returns-6
 unfolding Passed
-returns-10 c =
+returns-6 c =
     let m = c.before.before in
     let args = m.before.before.before.args in
-    let far = past _ args.question 0 9 (omega arith) m.match.rest in
+    let far = past args.question 0 5 (omega arith) m.match.rest in
     rw (last_asked _ args.question args.p args.q far) (c.member-code.ensures ∙ ap told_code c.before.in-wake-set.ensures)
 
 pub tests_ask_spec : {M : Type 1} → statement M
@@ -69,12 +53,4 @@ tests_ask_spec =
     (λ c κs. search rules)
     (λ c κs. search rules)
     (λ c κs. search rules)
-    (λ c κs. search rules)
-    (λ c κs. search rules)
-    (λ c κs. search rules)
-    (λ c κs. search rules)
-    (λ c κs. search rules)
-    (λ c κs. search rules)
-    (λ c κs. search rules)
-    (λ c κs. search rules)
-    returns returns-2 returns-3 returns-4 returns-5 returns-6 returns-7 returns-8 returns-9 returns-10)
+    returns returns-2 returns-3 returns-4 returns-5 returns-6)

@@ -1,4 +1,4 @@
--- `export_cells::number_at` meets its contract: each arm reads the number that the list has there; the carried bytes stand from 7
+-- `export_cells::number_at` meets its contract: each arm reads the number that the list has there; the carried bytes stand from 6
 -- on. Assumes nothing.
 use mathlib.Core.Path.{◌∙◌}
 use native.Mathlib.Omega.{arith}
@@ -38,12 +38,7 @@ returns-6 c = rw c.before.before.match.keys5 (c.word85.ensures ∙ c.before.targ
 -- how many bytes are carried
 returns-7 : tie.Need-returns-7
 unfolding numbers_of
-returns-7 c = rw c.before.before.match.keys6 (c.word86.ensures ∙ c.before.used.ensures _)
-
--- the clock
-returns-8 : tie.Need-returns-8
-unfolding numbers_of
-returns-8 c = rw (last_number (omega arith) c.before.match.rest) (c.clock.ensures _)
+returns-7 c = rw (last_number (omega arith) c.before.before.match.rest) (c.word86.ensures ∙ c.before.used.ensures _)
 
 pub number_at_spec : {M : Type 1} → statement M
 number_at_spec =
@@ -63,11 +58,9 @@ number_at_spec =
     (λ c κs. search rules)
     (λ c κs. search rules)
     (λ c κs. search rules)
-    (λ c κs. search rules)
     returns-2
     returns-3
     returns-4
     returns-5
     returns-6
-    returns-7
-    returns-8)
+    returns-7)

@@ -95,14 +95,8 @@ returns-7 c =
     let kind = asked.before.before in
     let low = kind.before.before in
     let words = low.before.args.words.now in
-    record { is = λ l m. rw arm.match.keys6 (rw low.low.ensures at (c.set-used.ensures words l)) }
-
--- the clock
-returns-8 : tie.Need-returns-8
-unfolding with_number numbers_set
-returns-8 c =
-    let last = last_number (omega arith) c.before.before.match.rest in
-    record { is = λ l m. rw last (c.set-clock.ensures _) }
+    let last = last_number (omega arith) arm.match.rest in
+    record { is = λ l m. rw last (rw low.low.ensures at (c.set-used.ensures words l)) }
 
 pub set_number_spec : {M : Type 1} → statement M
 set_number_spec =
@@ -120,11 +114,9 @@ set_number_spec =
     (λ c κs. search rules)
     (λ c κs. search rules)
     (λ c κs. search rules)
-    (λ c κs. search rules)
     returns-2
     returns-3
     returns-4
     returns-5
     returns-6
-    returns-7
-    returns-8)
+    returns-7)

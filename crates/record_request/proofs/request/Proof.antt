@@ -5,7 +5,7 @@ use Rattle.model.specs.State.{State}
 use Rattle.model.specs.Steps.{request}
 use Rattle.memory.specs.Layout.{state_in}
 use Rattle.request_hold.proofs.Chained.{enable_stays, disable_stays, get_stays, put_stays}
-use Rattle.record_request.proofs.Dispatching.{line_time, sleeping, past, past_sleeping}
+use Rattle.record_request.proofs.Dispatching.{line_12, sleeping, past, past_sleeping, is_last, last_allowed}
 use borrow.Author.Rules.{rules}
 use Rattle.record_request.proofs.request.Statement.{statement}
 use Rattle.record_request.proofs.request.Tie as tie
@@ -72,27 +72,20 @@ returns-9 : tie.Need-returns-9
 unfolding request if◌then◌else◌
 returns-9 c = record { is = λ g h l. rw c.before.before.before.match.keys8 (c.set-suspended.ensures.is h l); stays = c.set-suspended.ensures.stays }
 
--- ignore children
+-- ignore children: none of the other kinds
 returns-10 : tie.Need-returns-10
-unfolding request if◌then◌else◌
 returns-10 c =
-    let k = c.before.before.match.keys9 in
-    record { is = λ g h l. rw k ((c.ignore-children.ensures.is (rw k at g.fits) _).is h.ready.carried); stays = λ f. c.ignore-children.ensures.stays _ }
-
--- the kinds of autosuspend: none of the others
-returns-11 : tie.Need-returns-11
-returns-11 c =
-    let chosen = c.before.before.before in
+    let chosen = c.before.before in
     let n = chosen.match.rest in
     let slept = chosen.before in
     record {
       is =
           λ g h l.
-          let four = past (past (past g.low n.0.0.0.0.0.0.0.0.1) n.0.0.0.0.0.0.0.1) n.0.0.0.0.0.0.1 in
-          let nine = past_sleeping _ (sym slept.before.both.ensures ∙ slept.if1.false) (past (past four n.0.0.0.0.0.1) n.0.0.0.0.1) in
-          let thirteen = past (past (past (past nine n.0.0.0.1) n.0.0.1) n.0.1) n.1 in
-          line_time _ _ _ thirteen ∙ c.request.ensures.is g.fits h l;
-      stays = c.request.ensures.stays;
+          let four = past (past (past g.low n.0.0.0.0.0.0.0.1) n.0.0.0.0.0.0.1) n.0.0.0.0.0.1 in
+          let nine = past_sleeping _ (sym slept.before.both.ensures ∙ slept.if1.false) (past (past four n.0.0.0.0.1) n.0.0.0.1) in
+          let twelve = is_last _ _ g (past (past (past nine n.0.0.1) n.0.1) n.1) in
+          line_12 _ _ _ twelve ∙ (c.ignore-children.ensures.is (last_allowed _ _ g twelve) _).is h.ready.carried;
+      stays = λ f. c.ignore-children.ensures.stays _;
     }
 
 pub request_spec : {M : Type 1} → statement M
@@ -100,5 +93,5 @@ request_spec =
     tie.close
     (tie.spec (λ c κs. search rules) (λ c κs. search rules) returns (λ c κs. search rules) (λ c κs. search rules) (λ c κs. search rules) (λ c κs. search rules)
     (λ c κs. search rules) (λ c κs. search rules) (λ c κs. search rules) (λ c κs. search rules) (λ c κs. search rules) (λ c κs. search rules)
-    (λ c κs. search rules) (λ c κs. search rules) (λ c κs. search rules) (λ c κs. search rules)
-    returns-2 returns-3 returns-4 returns-5 returns-6 returns-7 returns-8 returns-9 returns-10 returns-11)
+    (λ c κs. search rules) (λ c κs. search rules) (λ c κs. search rules)
+    returns-2 returns-3 returns-4 returns-5 returns-6 returns-7 returns-8 returns-9 returns-10)

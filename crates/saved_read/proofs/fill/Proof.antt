@@ -3,8 +3,7 @@ use mathlib.Core.Path.{◌≡◌}
 use Prim.Native.Nat.{◌-◌}
 use native.Mathlib.Omega.{arith}
 use lib.ListN.{length}
-use Rattle.saved_form.specs.Form.{has2}
-use Rattle.saved_form.specs.Restoring.{spans_of}
+use Rattle.saved_form.specs.Restoring.{version1}
 use Rattle.saved_read.proofs.Laying.{Filling, filling_none, one_fits, filling_one, filling_all}
 use borrow.Author.Rules.{rules}
 use Rattle.saved_read.proofs.fill.Statement.{statement}
@@ -17,7 +16,7 @@ abbrev decreases-loop : tie.decreases-loop
 decreases-loop f bytes₀ words₀ spans k₀ bytes words k = length spans - k
 
 -- the table has all its spans
-many : (c : tie.Start invariant-loop decreases-loop) → length c.args.t2 ≡ length (spans_of has2)
+many : (c : tie.Start invariant-loop decreases-loop) → length c.args.t2 ≡ length version1
 many c = let g = c.well_formed.1.0 in search rules
 
 loop-holds : tie.Need-loop-init invariant-loop decreases-loop

@@ -9,7 +9,7 @@ returns c =
     let copied = c.before.before in
     let named = copied.before.before.before in
     let start = named.before.before.before.before in
-    words_laid start.args.f.now _ _ _ _ _ start.requires.0 start.requires.1 copied.read_words.ensures
+    words_laid start.args.f.now _ _ _ _ _ start.requires.0 start.requires.1 copied.read-words.ensures
 
 pub lay_words_spec : {M : Type 1} → statement M
 lay_words_spec =

@@ -13,13 +13,11 @@ returns : tie.Need-returns
 unfolding sound_test
 returns c = record { is = λ i. and_stop _ (failed c.before.well-kept.ensures c.if1.true); columns = λ e. never e refl }
 
--- the carried bytes, the open callback, and the timers
+-- the carried bytes and the open callback
 returns-2 : tie.Need-returns-2
 unfolding sound_test
 returns-2 c =
-    let timed = c.before in
-    let rest = timed.before in
-    let judged = rest.before in
+    let judged = c.before in
     let carried = judged.before in
     let tested = carried.before in
     let words = tested.before.before.args.words.now in
@@ -28,13 +26,11 @@ returns-2 c =
       is =
           λ i.
           let first = i.is (kept_ordered _ _ e).links in
-          let others = rw (carried.carried-good.ensures.is words, judged.callback-good.ensures.is e first) at rest.both.ensures in
-          and_go e (rw (timed.well-timed.ensures, others) at c.both2.ensures);
+          and_go e (rw (carried.carried-good.ensures.is words, judged.callback-good.ensures.is e first) at c.both.ensures);
       columns = λ t. e;
     }
 
 pub sound_by_spec : {M : Type 1} → statement M
 sound_by_spec =
     tie.close
-    (tie.spec (λ c κs. search rules) returns (λ c κs. search rules) (λ c κs. search rules) (λ c κs. search rules) (λ c κs. search rules)
-    (λ c κs. search rules) returns-2)
+    (tie.spec (λ c κs. search rules) returns (λ c κs. search rules) (λ c κs. search rules) (λ c κs. search rules) returns-2)

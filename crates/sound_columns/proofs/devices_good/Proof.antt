@@ -3,8 +3,7 @@ use mathlib.Core.Path.{sym, ◌∙◌}
 use native.Mathlib.Omega.{arith}
 use Rattle.model.specs.Limits.{ROWS, LINKS}
 use Rattle.memory.proofs.Columns.{status_page, holds_page, depth_page, error_page, children_page, linked_page}
-use Rattle.sound_rows.proofs.Reading.{column_of}
-use Rattle.sound_columns.proofs.Whole.{same_of, all_of, devices_parts}
+use Rattle.sound_columns.proofs.Whole.{column_of, same_of, all_of, devices_parts}
 use borrow.Author.Rules.{rules}
 use Rattle.sound_columns.proofs.devices_good.Statement.{statement}
 use Rattle.sound_columns.proofs.devices_good.Tie as tie

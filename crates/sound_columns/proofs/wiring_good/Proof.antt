@@ -5,8 +5,7 @@ use Prim.Native.Nat.{ℕ, ◌-◌}
 use Rattle.model.specs.Limits.{ROWS, LINKS}
 use Rattle.memory.specs.Layout.{state_in}
 use Rattle.memory.proofs.Columns.{parent_page, ignore_page, consumer_page, supplier_page, flags_page}
-use Rattle.sound_rows.proofs.Reading.{column_of}
-use Rattle.sound_columns.proofs.Whole.{all_of, fit_of, wiring_parts}
+use Rattle.sound_columns.proofs.Whole.{column_of, all_of, fit_of, wiring_parts}
 use borrow.Author.Rules.{rules}
 use Rattle.sound_columns.proofs.wiring_good.Statement.{statement}
 use Rattle.sound_columns.proofs.wiring_good.Tie as tie

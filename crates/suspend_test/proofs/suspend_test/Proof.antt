@@ -16,17 +16,13 @@ returns c =
     let linked = counted.before in
     let held = linked.before in
     let needed = held.before in
-    let children = needed.before in
-    let kept = children.before in
-    let a = kept.before.before.args in
-    let w = a.words.now in
-    let b = a.bytes.now in
-    rw (c.choose5.ensures, failed.error.ensures b, off.choose4.ensures, deep.depth.ensures w, used.choose3.ensures)
-    (rw (counted.usage.ensures, linked.linked.ensures b, held.holds.ensures b, needed.choose2.ensures, children.has-children.ensures w)
-    (rw (kept.choose.ensures, kept.before.kept_on.ensures)))
+    let w = needed.before.before.args.words.now in
+    let b = needed.before.before.args.bytes.now in
+    rw (c.choose4.ensures, failed.error.ensures b, off.choose3.ensures, deep.depth.ensures w, used.choose2.ensures)
+    (rw (counted.usage.ensures, linked.linked.ensures b, held.holds.ensures b, needed.choose.ensures, needed.before.has-children.ensures w))
 
 pub suspend_test_spec : {M : Type 1} → statement M
 suspend_test_spec =
     tie.close
     (tie.spec (λ c κs. search rules) (λ c κs. search rules) (λ c κs. search rules) (λ c κs. search rules) (λ c κs. search rules)
-    (λ c κs. search rules) (λ c κs. search rules) (λ c κs. search rules) (λ c κs. search rules) (λ c κs. search rules) (λ c κs. search rules) (λ c κs. search rules) returns)
+    (λ c κs. search rules) (λ c κs. search rules) (λ c κs. search rules) (λ c κs. search rules) (λ c κs. search rules) returns)

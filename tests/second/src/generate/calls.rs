@@ -1,14 +1,13 @@
 //! The lines of one call on a bench, sound or not: feed, ask and request.
 
 use super::damage::{changed, damaged};
-use super::hosts::{any_host, next_record, request, Session};
+use super::hosts::{any_host, next_record, write, Session};
 use super::lines::reached;
 use super::random::Random;
 use super::tally::Tally;
 use super::text::{hex, state};
 use crate::bench::*;
 use crate::feed::MAX_PIECE;
-use crate::saved::Number;
 
 /// A bench that a log has led to, mostly a sound one.
 fn any_bench(random: &mut Random) -> Bench {
@@ -91,10 +90,6 @@ pub fn ask_line(random: &mut Random, tally: &mut Tally) -> String {
         bench.usage_count(p),
         bench.child_count(p).map(u32::from),
         bench.parents_above(p),
-        bench.delay_of(p).map(Number::kept),
-        bench.last_busy(p),
-        bench.uses_autosuspend(p).map(u32::from),
-        bench.clock_time(),
         bench.wakes_with(p, q).map(u32::from),
     ];
     tally.add("0 lines", "ask".to_string());
@@ -126,9 +121,8 @@ pub fn request_line(random: &mut Random, tally: &mut Tally) -> String {
         let host = any_host(random);
         next_record(random, &start, host)
     } else {
-        let kind = random.from_to(1, 18) as u8;
-        let device = any_device(random, &start);
-        request(random, &start, kind, device)
+        let kind = random.from_to(1, 13) as u8;
+        write(kind, any_device(random, &start), 0)
     };
     let mut bench = start.clone();
     let (number, reply) = match bench.request(record) {

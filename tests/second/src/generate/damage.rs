@@ -2,11 +2,10 @@
 
 use super::random::Random;
 use super::text::SHOWN;
-use super::times;
 use crate::bench::*;
 
-/// A sound bench with other holds, depths, errors, ignore flags, delays or times;
-/// the bench itself if no change is sound.
+/// A sound bench with other holds, depths, errors or ignore flags; the bench
+/// itself if no change is sound.
 pub fn changed(random: &mut Random, bench: &Bench) -> Bench {
     for _ in 0..10 {
         let mut other = bench.clone();
@@ -22,16 +21,11 @@ pub fn changed(random: &mut Random, bench: &Bench) -> Bench {
 
 fn change_once(random: &mut Random, bench: &mut Bench) {
     let device = random.below(u64::from(bench.n)) as usize;
-    match random.below(14) {
+    match random.below(8) {
         0..=2 => bench.holds[device] = random.one_of(&[0, 1, 32_765, 32_766, 32_767, 32_767]),
         3 | 4 => bench.depth[device] = random.one_of(&[0, 0, 1, 253, 254, 255, 255]),
         5 => bench.error[device] = random.one_of(&[0, 5, 4_095]),
         6 => bench.error[device] = random.from_to(1, 4_095) as u16,
-        7 => bench.delay[device] = times::delay(random),
-        8 => bench.auto[device] ^= 1,
-        9 => bench.busy[device] = times::last_busy(random, bench.clock),
-        10 => bench.clock = times::clock(random),
-        11 | 12 => times::strain(random, bench, device),
         _ => bench.ignore[device] ^= 1,
     }
 }
@@ -84,7 +78,7 @@ fn mostly_below(random: &mut Random, limit: u8) -> u8 {
 
 fn damage_device(random: &mut Random, bench: &mut Bench) {
     let row = row(random, bench.n);
-    match random.below(11) {
+    match random.below(8) {
         0 => bench.parent[row] = random.one_of(&[0, row as u8, row as u8 + 1, 250, 255, 1, 2]),
         1 => bench.ignore[row] = mostly_below(random, 2),
         2 => bench.status[row] = mostly_below(random, 4),
@@ -92,9 +86,6 @@ fn damage_device(random: &mut Random, bench: &mut Bench) {
         4 => bench.depth[row] = random.one_of(&[0, 1, 2, 254, 255]),
         5 => bench.error[row] = random.one_of(&[0, 1, 5, 4_095, 4_096, 65_535]),
         6 => bench.children[row] = random.one_of(&[0, 1, 2, 3, 255]),
-        7 => bench.delay[row] = times::delay(random),
-        8 => bench.busy[row] = times::last_busy(random, bench.clock),
-        9 => bench.auto[row] = mostly_below(random, 2),
         _ => bench.linked[row] = random.one_of(&[0, 1, 2, 3, 255]),
     }
 }
@@ -192,7 +183,6 @@ fn clear_faults(bench: &mut Bench, device: usize) {
     bench.depth[device] = 0;
     bench.error[device] = 0;
     bench.holds[device] = 0;
-    bench.delay[device] = bench.delay[device].max(0);
 }
 
 /// Puts the counts of the rows shown right.

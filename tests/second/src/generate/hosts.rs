@@ -2,7 +2,6 @@
 
 use super::random::Random;
 use super::tally::Tally;
-use super::times;
 use crate::bench::*;
 use crate::record::FINISHED;
 
@@ -122,8 +121,7 @@ fn lively(random: &mut Random, bench: &Bench) -> [u8; 4] {
         let [kind, _, low, high] = bench.clone().record(record);
         let code = i16::from_le_bytes([low, high]);
         let dull = match code {
-            0 => record[0] == 12 || (14..=17).contains(&record[0]) && random.percent(80),
-            -11 => record[0] != 18,
+            0 => record[0] == 12,
             code => record[0] != 13 && code != -EBUSY && code != -EINPROGRESS,
         };
         if kind != FINISHED || !dull {
@@ -133,41 +131,29 @@ fn lively(random: &mut Random, bench: &Bench) -> [u8; 4] {
     polite(random, bench, &LIVELY_KINDS)
 }
 
-const STEADY_KINDS: [u8; 31] = [
-    1, 1, 1, 2, 3, 4, 4, 5, 5, 6, 6, 7, 8, 8, 9, 9, 9, 10, 10, 11, 11, 12, 12, 14, 14, 15, 16, 17,
-    17, 18, 18,
+const STEADY_KINDS: [u8; 23] = [
+    1, 1, 1, 2, 3, 4, 4, 5, 5, 6, 6, 7, 8, 8, 9, 9, 9, 10, 10, 11, 11, 12, 12,
 ];
-const LIVELY_KINDS: [u8; 24] = [
-    1, 4, 4, 5, 6, 6, 6, 7, 7, 8, 8, 9, 9, 9, 10, 11, 12, 14, 15, 16, 17, 18, 18, 18,
-];
+const LIVELY_KINDS: [u8; 17] = [1, 4, 4, 5, 6, 6, 6, 7, 7, 8, 8, 9, 9, 9, 10, 11, 12];
 
-/// Answers an open callback, with few slips and ticks between; else a request.
+/// Answers an open callback, with few slips; else a request.
 fn polite(random: &mut Random, bench: &Bench, kinds: &[u8]) -> [u8; 4] {
-    if bench.callback != NO_CALLBACK && random.percent(86) {
+    if bench.callback != NO_CALLBACK && random.percent(90) {
         return write(13, bench.asked, answer(random));
-    }
-    if bench.callback != NO_CALLBACK && random.percent(45) {
-        return request(random, bench, 14, 0);
     }
     if random.percent(15) {
         if let Some(device) = near_limit(random, bench) {
             return write(random.one_of(&[2, 3, 4]), device, 0);
         }
     }
-    if random.percent(15) {
-        if let Some(record) = times::timely(random, bench) {
-            return record;
-        }
-    }
     let device = random.below(u64::from(bench.n)) as u8;
     let kind = random.one_of(kinds);
-    request(random, bench, kind, device)
-}
-
-/// A good record of this kind about a device; a tick is about none and names part 0.
-pub fn request(random: &mut Random, bench: &Bench, kind: u8, device: u8) -> [u8; 4] {
-    let device = if kind == 14 { 0 } else { device };
-    write(kind, device, times::value(random, bench, kind))
+    let value = if kind == 12 {
+        random.below(2) as i16
+    } else {
+        0
+    };
+    write(kind, device, value)
 }
 
 /// A random device, if its holds or its disable depth are near their limit.
@@ -198,21 +184,18 @@ fn answer(random: &mut Random) -> i16 {
 /// A wrong kind, device or value, or a result that wasn't asked for.
 fn rude(random: &mut Random, bench: &Bench) -> [u8; 4] {
     let device = random.below(u64::from(bench.n)) as u8;
-    let kind = random.from_to(1, 18) as u8;
+    let kind = random.from_to(1, 13) as u8;
     if bench.callback != NO_CALLBACK && random.percent(50) {
         let other = (bench.asked + 1) % bench.n;
         return write(13, random.one_of(&[other, bench.target]), answer(random));
     }
-    match random.below(10) {
-        0 => write(random.one_of(&[0, 19, 20, 22, 128, 255]), device, 0),
+    match random.below(7) {
+        0 => write(random.one_of(&[0, 14, 15, 22, 128, 255]), device, 0),
         1 => write(kind, bench.n + random.below(3) as u8, 0),
         2 => write(kind, random.one_of(&[64, 254, 255]), 0),
         3 => write(kind, device, wrong_value(random)),
         4 => write(12, device, random.one_of(&[-1, 0, 1, 2, 256])),
         5 => write(13, device, random.one_of(&[0, -5, 1, -4_095, -4_096])),
-        6 => write(14, device, random.one_of(&[0, 1, 1_000, -1])),
-        7 => write(14, 0, random.one_of(&[32_767, -1, -32_768])),
-        8 => write(17, device, random.one_of(&[-1, 0, 1, 2, 256])),
         _ => write(kind, device, 0),
     }
 }
@@ -226,11 +209,7 @@ fn noise(random: &mut Random, bench: &Bench) -> [u8; 4] {
     if random.percent(15) {
         return [(); 4].map(|_| random.byte());
     }
-    let kind = random.below(21) as u8;
+    let kind = random.below(16) as u8;
     let device = random.below(u64::from(bench.n) + 1) as u8;
-    write(
-        kind,
-        device,
-        random.one_of(&[0, 0, 0, 0, 0, 1, -1, -11, 2, 1_000]),
-    )
+    write(kind, device, random.one_of(&[0, 0, 0, 0, 0, 1, -1, -11, 2]))
 }

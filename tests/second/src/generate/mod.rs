@@ -9,4 +9,3 @@ pub mod random;
 pub mod tables;
 pub mod tally;
 pub mod text;
-pub mod times;

@@ -31,29 +31,6 @@ impl Tally {
             ),
             ask => self.add("4 answer", format!("{} ask {ask}", label(before, kind))),
         }
-        if reply[0] == FINISHED && carried.is_empty() {
-            self.time(before, bytes, code);
-        }
-    }
-
-    /// What the delays and the clock have to do with an answer to a whole record.
-    fn time(&mut self, before: &Bench, bytes: &[u8], code: i16) {
-        let (kind, device) = (bytes[0], usize::from(bytes[1]));
-        let open = before.callback != NO_CALLBACK;
-        let set = before.auto[device] != 0;
-        let negative = set && before.delay[device] < 0;
-        let unused = before.usage(device) == 0;
-        let past = before.expiry(device) > u32::MAX.into();
-        let name = match (kind, code) {
-            (14, 0) if open => "tick while a callback is open",
-            (14, -75) if open => "tick past the end while a callback is open",
-            (14, -75) => "tick past the end",
-            (7 | 8 | 18, -11) if negative && unused => "negative delay with the flag",
-            (18, -11) if set && unused && past => "autosuspend too early, expiry past the end",
-            (18, -11) if set && unused => "autosuspend too early",
-            _ => return,
-        };
-        self.add("4 times", name.to_string());
     }
 
     /// One line for each group, with its names and counts.
@@ -73,7 +50,7 @@ impl Tally {
 
 fn kind_name(kind: u8) -> String {
     match kind {
-        1..=18 => format!("{kind:02}"),
+        1..=13 => format!("{kind:02}"),
         _ => "other".to_string(),
     }
 }

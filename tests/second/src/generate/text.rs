@@ -1,7 +1,6 @@
 //! Benches and bytes as text, for lines of cases.
 
 use crate::bench::*;
-use crate::saved::Number;
 
 /// Rows shown of each column. Later rows are zero.
 pub const SHOWN: usize = 12;
@@ -14,10 +13,9 @@ pub fn hex(bytes: &[u8]) -> String {
     bytes.iter().map(|byte| format!("{byte:02x}")).collect()
 }
 
-/// The numbers of a column's first rows as they are kept, with commas.
-fn column<T: Number>(values: &[T]) -> String {
-    let shown = values.iter().take(SHOWN);
-    let words: Vec<String> = shown.map(|value| value.kept().to_string()).collect();
+/// The numbers of a column's first rows, with commas.
+fn column<T: ToString>(values: &[T]) -> String {
+    let words: Vec<String> = values.iter().take(SHOWN).map(T::to_string).collect();
     words.join(",")
 }
 
@@ -42,10 +40,6 @@ pub fn state(bench: &Bench) -> String {
         format!("target={}", bench.target),
         format!("carried={}", column(&bench.carried)),
         format!("count={}", bench.count),
-        format!("delay={}", column(&bench.delay)),
-        format!("busy={}", column(&bench.busy)),
-        format!("auto={}", column(&bench.auto)),
-        format!("clock={}", bench.clock),
     ]
     .join(" ")
 }

@@ -3,23 +3,19 @@ use Rattle.std.proofs.Common.{rules}
 use Rattle.replay_pieces.proofs.lines.device.Statement.{statement}
 use Rattle.replay_pieces.proofs.lines.device.Tie as tie
 
--- the one exit
 returns : tie.Need-returns
 returns c =
-    let auto = c.before in
-    let busy = auto.before.before in
-    let delay = busy.before.before in
-    let error = delay.before.before in
+    let error = c.before in
     let depth = error.before.before in
     let children = depth.before.before in
     let linked = children.before.before in
     let holds = linked.before.before in
     let status = holds.before.before in
-    rw (← auto.auto.ensures, ← busy.busy.ensures, ← delay.delay.ensures, ← error.error.ensures, ← depth.depth.ensures)
-    (rw (← children.children.ensures, ← linked.linked.ensures, ← holds.holds.ensures, ← status.status.ensures) c.device.ensures)
+    rw (← error.error.ensures, ← depth.depth.ensures, ← children.children.ensures, ← linked.linked.ensures)
+    (rw (← holds.holds.ensures, ← status.status.ensures) c.device.ensures)
 
 pub device_spec : {M : Type 1} → statement M
 device_spec =
     tie.close
     (tie.spec (λ c κs. search rules) (λ c κs. search rules) (λ c κs. search rules) (λ c κs. search rules) (λ c κs. search rules) (λ c κs. search rules)
-    (λ c κs. search rules) (λ c κs. search rules) (λ c κs. search rules) (λ c κs. search rules) returns)
+    (λ c κs. search rules) returns)

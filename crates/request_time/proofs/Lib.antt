@@ -1,2 +1,0 @@
-pub mod Staying
-pub mod Ticking
