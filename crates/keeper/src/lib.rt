@@ -14,7 +14,7 @@ use table::Answer;
 use table_entries::{byte_at, device_byte, link_byte};
 
 // What loading a table gives: the answer, and the bench, empty where the table is refused.
-#[derive(Drop)]
+#[derive(Clone, Copy)]
 pub struct Loaded {
     pub answer: Answer,
     pub bench: Bench,
@@ -93,7 +93,7 @@ pub fn load(t: &[u8]) -> Loaded
 }
 
 // What a piece of log gives: the answer, and the bench handed back, as it was where the piece is refused.
-#[derive(Drop)]
+#[derive(Clone, Copy)]
 pub struct Fed {
     pub answer: record_answer::Answer,
     pub bench: Bench,

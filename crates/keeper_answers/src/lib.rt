@@ -6,7 +6,7 @@ ghost use Rattle.keeper_answers.specs.Told.{status_of, status_for, told_by, stat
 use basics::{long8, long32};
 
 // A device's status.
-#[derive(Drop)]
+#[derive(Clone, Copy)]
 pub enum Status {
     Suspended,
     Resuming,
@@ -15,21 +15,21 @@ pub enum Status {
 }
 
 // Answers: a bench that is not sound, an unknown device, or what is asked for.
-#[derive(Drop)]
+#[derive(Clone, Copy)]
 pub enum StatusAnswer {
     Unsound,
     Unknown,
     Is(Status),
 }
 
-#[derive(Drop)]
+#[derive(Clone, Copy)]
 pub enum NumberAnswer {
     Unsound,
     Unknown,
     Is(u32),
 }
 
-#[derive(Drop)]
+#[derive(Clone, Copy)]
 pub enum MemberAnswer {
     Unsound,
     Unknown,
@@ -37,7 +37,7 @@ pub enum MemberAnswer {
 }
 
 // What a question meets: a refusal, or none.
-#[derive(Drop)]
+#[derive(Clone, Copy)]
 pub enum Check {
     Unsound,
     Unknown,

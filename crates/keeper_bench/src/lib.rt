@@ -8,7 +8,7 @@ use memory::{BYTES, WORDS};
 
 // The bench: how the devices ("parts" of document 01) hang together, the state of each, the open callback and the carried bytes, as they
 // stand in the memory.
-#[derive(Drop)]
+#[derive(Clone, Copy)]
 pub struct Bench {
     pub bytes: [u8; BYTES],
     pub words: [u32; WORDS],

@@ -6,14 +6,14 @@ use record_kinds::Record;
 use request_answer::Reply;
 
 // What a request is answered: the bench is not sound (21), or the record's reply.
-#[derive(Drop)]
+#[derive(Clone, Copy)]
 pub enum Outcome {
     Unsound,
     Replied(Reply),
 }
 
 // The answer to a request, and the bench it leaves.
-#[derive(Drop)]
+#[derive(Clone, Copy)]
 pub struct Requested {
     pub outcome: Outcome,
     pub bench: Bench,

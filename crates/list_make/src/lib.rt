@@ -14,7 +14,7 @@ const DEVICE_BYTES: usize = 2 * (DEVICES as usize);
 const LINK_BYTES: usize = 3 * LINKS;
 
 // A refusal of the writer, and the line it stands in, 0 where there is none.
-#[derive(Drop)]
+#[derive(Clone, Copy)]
 pub struct Refusal {
     pub number: u8,
     pub index: u16,
@@ -22,7 +22,7 @@ pub struct Refusal {
 }
 
 // What becomes of a list: a table of so many bytes, a line in which a number is over 255, a line of another sort, or a refusal.
-#[derive(Drop)]
+#[derive(Clone, Copy)]
 pub enum Made {
     Written(usize),
     Large(usize),

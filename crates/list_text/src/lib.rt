@@ -12,7 +12,7 @@ const LINE_FEED: u8 = 10;
 const FIRST: usize = 1;
 
 // The first line that is none of a list's: a number over 255 in it, or another sort of line; with its number.
-#[derive(Drop)]
+#[derive(Clone, Copy)]
 pub enum Fault {
     Nothing,
     Large(usize),
@@ -20,7 +20,7 @@ pub enum Fault {
 }
 
 // A line: what it stands for, and where the line after it starts.
-#[derive(Drop)]
+#[derive(Clone, Copy)]
 struct Line {
     entry: Entry,
     next: usize,

@@ -3,7 +3,7 @@ ghost use Rattle.std.specs.Prelude.{◌≡◌};
 ghost use Rattle.list_words.specs.Words.{is_blank, stops, Scanned, before, from, word_in};
 
 // Where a text is cut: at the first byte of a comment, at the first blank, at the first byte of a word.
-#[derive(Drop)]
+#[derive(Clone, Copy)]
 pub enum Cut {
     Comment,
     Blank,

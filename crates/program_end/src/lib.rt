@@ -4,7 +4,7 @@ ghost use Rattle.program_end.specs.Ends.{status_of};
 
 // All is done, the table, the list or the saved state is refused, the arguments are wrong, a file cannot be opened, read or written, or the
 // keeper refuses a piece or to save.
-#[derive(Drop)]
+#[derive(Clone, Copy)]
 pub enum End {
     Done,
     Refused,

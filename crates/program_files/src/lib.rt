@@ -53,7 +53,7 @@ pub fn same_name(i: usize, j: usize) -> bool {
 }
 
 // How many bytes were read, and whether a read failed there.
-#[derive(Drop)]
+#[derive(Clone, Copy)]
 pub struct Step {
     pub count: usize,
     pub failed: bool,
@@ -94,7 +94,7 @@ pub fn fill(fd: i32, buf: &mut [u8], size: usize) -> Step
 }
 
 // An open file, below 0 where it could not be opened, and how long its name is.
-#[derive(Drop)]
+#[derive(Clone, Copy)]
 pub struct File {
     pub fd: i32,
     pub length: usize,

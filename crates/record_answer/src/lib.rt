@@ -3,7 +3,7 @@ ghost use Rattle.std.specs.Prelude.{◌≡◌};
 ghost use Rattle.record_answer.specs.Answers.{number_of, replies_of};
 
 // What becomes of a piece: refused, or taken with so many replies.
-#[derive(Drop)]
+#[derive(Clone, Copy)]
 pub enum Answer {
     Unsound,
     Long,

@@ -9,7 +9,7 @@ ghost use Rattle.record_kinds.specs.Kinds.{rec_of};
 use memory::BYTES;
 
 // A record: its value is the 16-bit number as it stands.
-#[derive(Drop)]
+#[derive(Clone, Copy)]
 pub struct Record {
     pub kind: u8,
     pub device: u8,
@@ -26,7 +26,7 @@ const LAST: u8 = 13;
 pub const RESULT: u8 = 13;
 
 // The least and greatest value allowed.
-#[derive(Drop)]
+#[derive(Clone, Copy)]
 struct Bounds(i16, i16);
 
 // The least and greatest value allowed for each kind.

@@ -8,7 +8,7 @@ use memory::{BYTES, WORDS};
 use model::PIECE;
 
 // The bytes carried from the piece before, and how many they are.
-#[derive(Drop)]
+#[derive(Clone, Copy)]
 pub struct Carried {
     pub bytes: [u8; 3],
     pub used: usize,

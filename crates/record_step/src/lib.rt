@@ -26,7 +26,7 @@ fn refused(device: u8, number: u16) -> Reply
 // ---- kind 13
 
 // The callbacks that the host runs.
-#[derive(Drop)]
+#[derive(Clone, Copy)]
 enum CallbackKind {
     Suspend,
     Resume,
@@ -34,7 +34,7 @@ enum CallbackKind {
 }
 
 // The open callback: none; or its kind, the device asked, and the device that was requested ("target").
-#[derive(Drop)]
+#[derive(Clone, Copy)]
 enum Callback {
     None,
     Open(CallbackKind, u8, u8),

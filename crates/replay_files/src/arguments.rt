@@ -4,7 +4,7 @@ use program_files::{same_name, say};
 use replay_text::size::{MOST, Size};
 
 // What the arguments ask for: the program that speaks, the size of the pieces, and which argument names the file to save to, 0 for none.
-#[derive(Drop)]
+#[derive(Clone, Copy)]
 pub struct Task {
     pub resumes: bool,
     pub size: usize,
@@ -12,7 +12,7 @@ pub struct Task {
 }
 
 // A task, or arguments that give none.
-#[derive(Drop)]
+#[derive(Clone, Copy)]
 pub enum Asked {
     Wrong,
     Given(Task),

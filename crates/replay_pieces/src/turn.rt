@@ -5,7 +5,7 @@ use keeper_bench::Bench;
 use record_answer::Answer;
 
 // Where a replay stands: the bench, and how many pieces and replies there are so far.
-#[derive(Drop)]
+#[derive(Clone, Copy)]
 pub struct Progress {
     pub bench: Bench,
     pub pieces: u64,
@@ -13,7 +13,7 @@ pub struct Progress {
 }
 
 // What a piece gives: where the replay stands after it, the keeper's answer, and how many bytes of the buffer are its replies.
-#[derive(Drop)]
+#[derive(Clone, Copy)]
 pub struct Turn {
     pub progress: Progress,
     pub answer: Answer,

@@ -38,7 +38,7 @@ fn usage(holds: u32, linked: u32) -> u64
 
 // What is told of a device: its status, user holds, runtime links from powered consumers, powered children, disable depth, and the
 // magnitude of its runtime error.
-#[derive(Drop)]
+#[derive(Clone, Copy)]
 pub struct Row {
     pub status: u8,
     pub holds: u32,

@@ -11,7 +11,7 @@ use replay_pieces::turn;
 use replay_pieces::turn::Progress;
 
 // Where a replay stands: the bench and the replies, the end where there is no more, and whether there may be more to read.
-#[derive(Drop)]
+#[derive(Clone, Copy)]
 pub struct Session {
     pub progress: Progress,
     pub end: End,
@@ -19,7 +19,7 @@ pub struct Session {
 }
 
 // The program that speaks, what it reads from, in pieces of which size, and what it writes to.
-#[derive(Drop)]
+#[derive(Clone, Copy)]
 pub struct Ends {
     pub resumes: bool,
     pub log: i32,

@@ -7,7 +7,7 @@ ghost use Rattle.replay_text.specs.Line.{line_of, added};
 pub const ROOM: usize = 256;
 
 // A line: its bytes, zero after its text, and how many of them are text.
-#[derive(Drop)]
+#[derive(Clone, Copy)]
 pub struct Line {
     pub bytes: [u8; ROOM],
     pub used: usize,

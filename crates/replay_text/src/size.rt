@@ -6,7 +6,7 @@ ghost use Rattle.replay_text.specs.Sizes.{digit_of, size_of};
 pub const MOST: usize = 4096;
 
 // A size, or a text that gives none.
-#[derive(Drop)]
+#[derive(Clone, Copy)]
 pub enum Size {
     Wrong,
     Bytes(usize),

@@ -3,7 +3,7 @@ ghost use Rattle.std.specs.Prelude.{◌≡◌};
 ghost use Rattle.request_answer.specs.Promises.{magnitude};
 
 // A reply: kind 0 finished with a code, 1 to 3 run a callback, 4 refused.
-#[derive(Drop)]
+#[derive(Clone, Copy)]
 pub struct Reply {
     pub kind: u8,
     pub device: u8,

@@ -25,7 +25,7 @@ pub fn save(bench: Bench, buffer: &mut [u8]) -> Saving
 }
 
 // What restoring gives: the answer, and the bench, empty where the bytes are refused.
-#[derive(Drop)]
+#[derive(Clone, Copy)]
 pub struct Restored {
     pub answer: Restoring,
     pub bench: Bench,

@@ -3,7 +3,7 @@ ghost use Rattle.std.specs.Prelude.{◌≡◌};
 ghost use Rattle.saved_answer.specs.Answers.{saving_of, restoring_of};
 
 // The bench is not sound, the buffer is too short, or the form is written; in the order of the tests.
-#[derive(Drop)]
+#[derive(Clone, Copy)]
 pub enum Saving {
     Unsound,
     Room,
@@ -12,7 +12,7 @@ pub enum Saving {
 
 // Fewer than five bytes, another mark, a version that is not known, another length than the version's, no sound bench's form, or a bench;
 // in the order of the tests.
-#[derive(Drop)]
+#[derive(Clone, Copy)]
 pub enum Restoring {
     Short,
     Mark,

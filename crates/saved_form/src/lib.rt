@@ -12,7 +12,7 @@ const WORDSAT: usize = HEADER + BYTES;
 pub const FORM: usize = WORDSAT + 4 * WORDS;
 
 // A span of cells: of which of the two arrays, where in the form, how many, and where in the array.
-#[derive(Drop)]
+#[derive(Clone, Copy)]
 pub struct Span {
     pub words: bool,
     pub at: usize,

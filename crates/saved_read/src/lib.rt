@@ -13,7 +13,7 @@ use saved_answer::Restoring;
 use saved_form::{FORM, HEADER, SPANS, Span, VERSION1};
 
 // What reading gives: refused, or taken; and the two arrays, zeros where the bytes are refused.
-#[derive(Drop)]
+#[derive(Clone, Copy)]
 pub struct Cells {
     pub answer: Restoring,
     pub bytes: [u8; BYTES],

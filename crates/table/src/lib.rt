@@ -8,7 +8,7 @@ use model::{DEVICES, LINKS};
 use table_entries::{byte_at, device_byte, ends_good, link_byte, parent_good};
 
 // The answer to a table: taken, or a refusal, in document 01's order. An entry's refusal has its index.
-#[derive(Drop)]
+#[derive(Clone, Copy)]
 pub enum Answer {
     Taken,
     Short,

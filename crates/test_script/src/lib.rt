@@ -35,7 +35,7 @@ use test_words::name_in;
 use texts::{NOTHING, say};
 
 // The bench, and a number that is made of every reply since the table.
-#[derive(Drop)]
+#[derive(Clone, Copy)]
 struct Play {
     bench: Bench,
     replies: u64,
@@ -44,7 +44,7 @@ struct Play {
 // How many can be kept, and those.
 const SLOTS: usize = 12;
 
-#[derive(Drop)]
+#[derive(Clone, Copy)]
 struct Slots {
     all: [Play; SLOTS],
 }

@@ -18,7 +18,7 @@ const WORDS: usize = 64;
 const UNREAD: usize = 18446744073709551615;
 
 // Where a word starts and stops.
-#[derive(Drop)]
+#[derive(Clone, Copy)]
 pub struct Part {
     pub start: usize,
     pub stop: usize,

@@ -13,7 +13,7 @@ use model::{ACTIVE, ROWS};
 use wake_rules::{bars, on_parent, on_supplier};
 
 // The lowest member of a wake set, n where it has none, and whether a member other than the target is barred.
-#[derive(Drop)]
+#[derive(Clone, Copy)]
 pub struct Reach {
     pub low: u8,
     pub barred: bool,

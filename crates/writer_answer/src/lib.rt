@@ -3,7 +3,7 @@ ghost use Rattle.std.specs.Prelude.{◌≡◌};
 ghost use Rattle.writer_answer.specs.Outcomes.{outcome_of};
 
 // The table is written, or a refusal, in the order of the tests. An entry's refusal has its index in the list given.
-#[derive(Drop)]
+#[derive(Clone, Copy)]
 pub enum Outcome {
     Written,
     Limits,
