@@ -23,8 +23,8 @@ rows start =
 piece_fits : (c : Then-used-lt1) → Room 0 c.args.piece.now c.args.replies-1.now
 piece_fits none =
     let u = none.if-used-lt1.taken in
-    let r = none.pre.room in
-    record { few = omega arith; short = none.pre.short; room = omega arith }
+    let r = none.requires.room in
+    record { few = omega arith; short = none.requires.short; room = omega arith }
 
 pub shape_of-replies-then-used-lt1 : goal.shape_of-replies-then-used-lt1
 shape_of-replies-then-used-lt1 c = search rules
@@ -38,7 +38,7 @@ returns-then-used-lt1 c =
 pub returns-then-used-piece-lt4 : goal.returns-then-used-piece-lt4
 returns-then-used-piece-lt4 c =
     let long = joined_length c.args.carried.bytes c.args.piece.now c.args.carried.used (rows (goal.at.returns-then-used-piece-lt4 c).Start in
-    record { is = λ z. turning_end (turning_start (let r = c.pre.room in omega arith)) (let l = c.if-used-piece-lt4.true in omega arith) z }
+    record { is = λ z. turning_end (turning_start (let r = c.requires.room in omega arith)) (let l = c.if-used-piece-lt4.true in omega arith) z }
 
 -- there is a whole record, and room for its reply
 whole_record : (c : Else-used-piece-lt4) → 4 ≤ length ((joined c.args.carried.bytes c.args.carried.used c.args.piece.now))
@@ -69,9 +69,9 @@ pub answer_rest-requires : goal.answer_rest-requires
 answer_rest-requires c =
     let l = c.if-used-piece-lt4.false in
     let u = c.if-used-lt1.false in
-    let few = c.pre.few in
-    let short = c.pre.short in
-    let r = c.pre.room in
+    let few = c.requires.few in
+    let short = c.requires.short in
+    let r = c.requires.room in
     let many : length c.answer_first.new.1.1.1.1.1.0 ≡ length c.args.replies-1.now = search rules in
     record { within = omega arith; short = short; one = omega arith; room = omega arith }
 

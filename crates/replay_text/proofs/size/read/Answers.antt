@@ -15,7 +15,7 @@ taken : (c : Else-d-gt9) → let at = c.loop-i in
     size_after (10 * at.value + c.digit-d.result) (drop (at.i + 1) (c.args.text.now)) ≡ size_of (c.args.text.now)
 taken c =
     let at = c.loop-i in
-    turn_on (c.args.text.now) at.i at.value c.loop-i-test.true c.digit-d.ensures c.if-d-gt9.false ∙ at.inv.2
+    turn_on (c.args.text.now) at.i at.value c.loop-i-test.true c.digit-d.ensures c.if-d-gt9.false ∙ at.invariant.2
 
 pub loop-i-init : goal.loop-i-init
 unfolding size_of
