@@ -1,5 +1,4 @@
 -- `list_lines::link_of` meets its contract: each exit is a case of `judged`. Assumes nothing.
--- the greatest of the three numbers
 use mathlib.Core.Path.{◌≡◌, ◌∙◌}
 use Rattle.list_lines.specs.Numbers.{most}
 use Rattle.list_lines.specs.Lines.{link_of}
@@ -7,6 +6,7 @@ use Rattle.list_lines.proofs.Judging.{judged_wrong, judged_large, judged_good}
 use Rattle.list_lines.proofs.link_of.Goals as goal
 use Rattle.list_lines.proofs.link_of.Goals.{After-most-worst}
 
+-- the greatest of the three numbers
 greatest : (c : After-most-worst) → let given = c.args in
     c.most-worst.result ≡ most given.consumer (most given.supplier given.flags)
 greatest c = c.most-worst.ensures.is ∙ rw c.most.ensures.is

@@ -1,6 +1,5 @@
 -- `record_feed::feed` meets its contract. The number of a piece follows from the soundness test and the lengths alone; a piece that is taken
 -- leads where the plain keeper leads. Assumes nothing.
--- the index made, from where soundness was tested; and the state at the start, from there
 use mathlib.Core.Path.{◌≡◌, refl, sym, ◌∙◌}
 use Rattle.model.specs.State.{State}
 use Rattle.model.specs.SoundTest.{sound_test}

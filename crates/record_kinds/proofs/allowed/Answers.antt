@@ -1,5 +1,4 @@
 -- The two comparisons of the code are the two of the definition: a signed number is read back from its bits as it was. Assumes nothing.
--- the start, from where the two bounds of the kind are read
 use lib.ListN.{get_or}
 use mir.Syntax.{w16}
 use mir.Val.{SFits}

@@ -1,5 +1,4 @@
 -- Where bytes are carried, the first record is answered by itself, then those of the piece. Assumes nothing.
--- the carried bytes have their three rows
 use mathlib.Core.Path.{◌≡◌}
 use mathlib.Core.List.{List}
 use Prim.Native.Nat.{ℕ, ◌≤◌}
@@ -12,6 +11,7 @@ use borrow.Author.Rules.{rules}
 use Rattle.record_piece.proofs.answer_all.Goals as goal
 use Rattle.record_piece.proofs.answer_all.Goals.{Else-used-piece-lt4, Start, Then-used-lt1}
 
+-- the carried bytes have their three rows
 rows : (start : Start) → start.args.carried.used ≤ length start.args.carried.bytes
 rows start =
     let few = start.requires.few in
@@ -20,7 +20,7 @@ rows start =
     omega arith
 
 -- nothing is carried: the records stand in the piece
-piece_fits : (c : Then-used-lt1) → Room 0 c.args.piece.now c.args.replies-1.now
+piece_fits : (c : Then-used-lt1) → Room 0 c.args.piece.now c.args.replies.now
 piece_fits none =
     let u = none.if-used-lt1.taken in
     let r = none.requires.room in
@@ -51,7 +51,7 @@ whole_record c =
     let long = joined_length c.args.carried.bytes c.args.piece.now c.args.carried.used (rows in
     omega arith
 
-room_for_one : (c : Else-used-piece-lt4) → 4 ≤ length c.args.replies-1.now
+room_for_one : (c : Else-used-piece-lt4) → 4 ≤ length c.args.replies.now
 room_for_one c =
     let l = c.if-used-piece-lt4.false in
     let r = c.requires.room in
@@ -72,7 +72,7 @@ answer_rest-requires c =
     let few = c.requires.few in
     let short = c.requires.short in
     let r = c.requires.room in
-    let many : length c.answer_first.new.1.1.1.1.1.0 ≡ length c.args.replies-1.now = search rules in
+    let many : length c.answer_first.new.1.1.1.1.1.0 ≡ length c.args.replies.now = search rules in
     record { within = omega arith; short = short; one = omega arith; room = omega arith }
 
 pub shape_of-replies : goal.shape_of-replies
@@ -86,5 +86,5 @@ returns c =
       is = λ z.
           let head = c.answer_first.ensures.is z in
           let more = rw after at (rest.is head.between) in
-          rw rest.back (led_joined ((joined c.args.carried.bytes c.args.carried.used c.args.piece.now)) c.args.replies-1.now (whole_record (goal.at.returns c).Else-used-piece-lt4 (room_for_one (goal.at.returns c).Else-used-piece-lt4 z head more);
+          rw rest.back (led_joined ((joined c.args.carried.bytes c.args.carried.used c.args.piece.now)) c.args.replies.now (whole_record (goal.at.returns c).Else-used-piece-lt4 (room_for_one (goal.at.returns c).Else-used-piece-lt4 z head more);
     }

@@ -1,6 +1,5 @@
 -- Kind 6's put was -75 or left the device in use, and ends the request; else the code chosen is 0 only where every test of the kind
 -- passed, and otherwise it is that of the first that did not. Assumes nothing.
--- no put, or one that was done, from where the code is chosen; before it stands the put
 use mathlib.Core.Path.{◌≡◌, refl, sym, ◌∙◌}
 use mathlib.Core.List.{List}
 use Prim.Native.Nat.{ℕ}
@@ -22,7 +21,7 @@ coded c =
     code_of _ _ _ c.suspend_test.ensures waking sleeping c.choose-own.ensures c.first_code-code.ensures
 
 -- whether the request ends there
-ends_by : (c : After-either) → let put = c.put_first-put in let a = c.args in
+ends_by : (c : After-either) → let put = c.put_first in let a = c.args in
     ends a.kind (state_in a.bytes.now put.last.0) a.p put.result ≡ c.either.result
 ends_by c = sym (rw (c.still_used.ensures c.args.bytes.now) at c.either.ensures)
 

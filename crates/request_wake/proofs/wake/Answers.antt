@@ -1,6 +1,5 @@
 -- `request_wake::wake` meets its contract: the model's tests are made one after another, each exit has the facts of those passed, and a
 -- law of `Changes` says what the model then answers. Assumes nothing.
--- the state at the start
 use mathlib.Core.Path.{◌≡◌, refl, ◌∙◌}
 use mathlib.Core.Bool.{false}
 use lib.Dec.{ltb, eqb}

@@ -1,6 +1,5 @@
 -- A refused state is told; from the bench of one that is taken the log goes on, and the bench that is saved and told is the last one. Assumes
 -- nothing.
--- ---- places: the number of the answer, the restoring, and the bytes
 use mathlib.Core.Path.{◌≡◌, refl, sym, ap, ◌∙◌}
 use mathlib.Core.List.{List}
 use mathlib.Core.Logic.{⊎_elim}
@@ -21,9 +20,9 @@ zero f =
     sym (number ∙ f.if-number-ne0.false
 
 -- what was fed, from its bench on
-resumed : (f : After-named-session) → Resumed (f.args.state.now) f.named-session.result.progress-1
+resumed : (f : After-named-session) → Resumed (f.args.state.now) f.named-session.result.progress
 resumed f =
-    let restore = f.restore-restored in
+    let restore = f.restore in
     record {
       restore = record { =.args.state.now f.args.state.now; result = restore.result };
       given = refl;

@@ -1,6 +1,5 @@
 -- `state_file::keep` meets its contract: a saving into a buffer of the form's length is the form, or is refused since the bench is not sound.
 -- Assumes nothing.
--- ---- places: the answer, the saving, and the start of the call
 use mathlib.Core.Path.{◌≡◌, refl, sym, ◌∙◌}
 use mathlib.Core.List.{List}
 use Prim.Native.Nat.{ℕ}
@@ -15,7 +14,7 @@ use Rattle.state_file.proofs.keep.Goals as goal
 use Rattle.state_file.proofs.keep.Goals.{Start}
 
 -- the arrays of a bench have their lengths by its type
-many_bytes : (c : Start) → length c.args.bench.bytes-1 ≡ BYTES
+many_bytes : (c : Start) → length c.args.bench.bytes ≡ BYTES
 unfolding BYTES ROWS LINKS
 many_bytes c = let g = c.well_formed.1.0 in search rules
 

@@ -1,5 +1,4 @@
 -- `table::judge` meets its contract: the tests run in the order of `table_answer`, and each exit is its branch. Assumes nothing.
--- the table
 use mathlib.Core.Path.{◌≡◌, sym, ◌∙◌}
 use mathlib.Core.Bool.{true, false}
 use mathlib.Core.List.{List}

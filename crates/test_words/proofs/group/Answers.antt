@@ -1,5 +1,4 @@
 -- `test_words::group` is safe: a scan from the start stops within the text. Assumes nothing.
--- where the star was looked for
 use native.Mathlib.Omega.{arith}
 use Rattle.test_words.proofs.group.Goals as goal
 

@@ -1,5 +1,4 @@
 -- `test_words::member` meets its contract: the product of two bytes and a byte more fit. Assumes nothing.
--- the start
 use Prim.Native.Nat.{◌*◌, ◌%◌, ◌≤◌}
 use native.Mathlib.Omega.{arith}
 use Rattle.test_words.proofs.Reading.{small}

@@ -1,5 +1,4 @@
 -- `writer_lists::judge` meets its contract: each exit is the first of the tests that fails, and past the last none has. Assumes nothing.
--- ---- places: the start of the call, from each test of the limits on
 use mathlib.Core.Path.{◌≡◌}
 use mathlib.Core.Bool.{true}
 use native.Mathlib.Omega.{arith}
