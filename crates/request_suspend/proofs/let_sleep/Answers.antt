@@ -47,7 +47,7 @@ returns-then-kind-lt8 c =
           record {
             is =
                 λ h.
-                rw (c.set_callback.ensures _ (full_long _ _ h), c.ask.ensures) (idle_asks _ _ (coded (goal.at.returns-then-kind-lt8 c).After-first_code-code e c.if-code-gt0.false);
+                rw (c.set_callback.ensures _ (full_long _ _ h), c.ask.ensures) (idle_asks _ _ (coded (goal.at.returns-then-kind-lt8 c).After-first_code-code) e c.if-code-gt0.false);
           };
       suspending = λ e. never (lt-ltb _ _ c.if-kind-lt8.true) e;
     })
@@ -60,7 +60,7 @@ returns c =
       suspending =
           λ e.
           record {
-            is = λ h l. suspend_asks _ _ (coded (goal.at.returns c).After-first_code-code e c.if-code-gt0.false ∙ c.ask_suspend.ensures.is h l;
+            is = λ h l. suspend_asks _ _ (coded (goal.at.returns c).After-first_code-code) e c.if-code-gt0.false ∙ c.ask_suspend.ensures.is h l;
             stays = c.ask_suspend.ensures.stays;
           };
     })

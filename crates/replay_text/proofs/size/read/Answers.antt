@@ -34,7 +34,7 @@ returns-then-value-gt-MOST c =
     sym (size_large _ (drop (c.loop-i.i + 1) (c.args.text.now)) c.if-value-gt-MOST.true) ∙ taken (goal.at.returns-then-value-gt-MOST c).Else-d-gt9
 
 pub loop-i-preserved : goal.loop-i-preserved
-loop-i-preserved c = (omega arith, c.if-value-gt-MOST.false, taken (goal.at.loop-i-preserved c).Else-d-gt9
+loop-i-preserved c = (omega arith, c.if-value-gt-MOST.false, taken (goal.at.loop-i-preserved c).Else-d-gt9)
 
 -- no digit, or zeros alone
 pub returns-then-value-eq0 : goal.returns-then-value-eq0
