@@ -22,7 +22,7 @@ rows start =
 -- nothing is carried: the records stand in the piece
 piece_fits : (c : Then-used-lt1) → Room 0 c.args.piece.now c.args.replies.now
 piece_fits none =
-    let u = none.if-used-lt1.taken in
+    let u = none.if-used-lt1.true in
     let r = none.requires.room in
     record { few = omega arith; short = none.requires.short; room = omega arith }
 

@@ -33,7 +33,7 @@ returns-then-either c = slept_stop c.put_first-put.ensures _ c.finished.ensures 
 pub returns-then-code-gt0 : goal.returns-then-code-gt0
 returns-then-code-gt0 c =
     let code = coded (goal.at.returns-then-code-gt0 c).After-first_code-code in
-    slept_go c.put_first-put.ensures (ends_by (goal.at.returns-then-code-gt0 c).After-either ∙ c.if-either.left) (record {
+    slept_go c.put_first-put.ensures (ends_by (goal.at.returns-then-code-gt0 c).After-either ∙ c.if-either.false) (record {
       idling = λ e. record { is = λ h. rw c.finished-then-code-gt0.ensures (idle_stops _ _ code e c.if-code-gt0.true) };
       suspending = λ e. record { is = λ h l. rw c.finished-then-code-gt0.ensures (suspend_stops _ _ code e c.if-code-gt0.true); stays = λ f. refl };
     })
@@ -41,7 +41,7 @@ returns-then-code-gt0 c =
 -- its idle callback is asked for
 pub returns-then-kind-lt8 : goal.returns-then-kind-lt8
 returns-then-kind-lt8 c =
-    slept_go c.put_first-put.ensures (ends_by (goal.at.returns-then-kind-lt8 c).After-either ∙ c.if-either.left) (record {
+    slept_go c.put_first-put.ensures (ends_by (goal.at.returns-then-kind-lt8 c).After-either ∙ c.if-either.false) (record {
       idling =
           λ e.
           record {
@@ -55,7 +55,7 @@ returns-then-kind-lt8 c =
 -- it is asked to suspend
 pub returns : goal.returns
 returns c =
-    slept_go c.put_first-put.ensures (ends_by (goal.at.returns c).After-either ∙ c.if-either.left) (record {
+    slept_go c.put_first-put.ensures (ends_by (goal.at.returns c).After-either ∙ c.if-either.false) (record {
       idling = λ e. never e (le-ltb _ _ c.if-kind-lt8.false);
       suspending =
           λ e.
