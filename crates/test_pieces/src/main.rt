@@ -1,4 +1,8 @@
 // Pieces of log: the cases stand in `stdin`, a test script.
-fn main() {
-    test_script::run();
+#![tactic(auto)]
+
+use std::io;
+
+fn main(rt: HostRuntime) -> io::Result<()> {
+    test_script::run(&rt)
 }

@@ -1,4 +1,8 @@
 // Single records, and the questions on a bench: the cases stand in `stdin`, a test script.
-fn main() {
-    test_script::run();
+#![tactic(auto)]
+
+use std::io;
+
+fn main(rt: HostRuntime) -> io::Result<()> {
+    test_script::run(&rt)
 }
