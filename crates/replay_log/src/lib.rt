@@ -1,4 +1,6 @@
 // The replay of the log that the arguments name.
+#![tactic(auto)]
+
 ghost use Rattle.std.specs.Prelude.{◌≡◌, ◌⊎◌};
 ghost use Rattle.replay_session.specs.Sessions.{Went};
 
