@@ -4,8 +4,9 @@ use Prim.Native.Nat.{◌<◌}
 use Rattle.c_calls.specs.Numbers.{RANGE}
 use Rattle.c_calls.proofs.Results.{less_fits, less_is}
 use Rattle.c_calls.proofs.refused.Goals as goal
+use Rattle.c_calls.proofs.refused.Goals.{Start}
 
-byte : (c : goal.Start) → c.args.number < RANGE
+byte : (c : Start) → c.args.number < RANGE
 byte c = let f = c.ranges.number.fits in omega arith
 
 pub returns : goal.returns

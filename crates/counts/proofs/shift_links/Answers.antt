@@ -41,25 +41,30 @@ returns c =
     let fits = rw to at within.if-end-gt-LINKS.false in
     (rw (all, from, to) at loop.loop-i.invariant.1.1) ∙ links_within at.before.args.first.now _ at.before.args.p _ fits
 
-unfolding ROWS
-
 pub offset_bounds-first-at : goal.offset_bounds-first-at
+unfolding ROWS
 offset_bounds-first-at c = omega (arith, c.row-at.ensures.1)
 
 pub bounds-first-at : goal.bounds-first-at
+unfolding ROWS
 bounds-first-at c = omega (arith, c.row-at.ensures.1)
 
 pub overflow_add-at : goal.overflow_add-at
+unfolding ROWS
 overflow_add-at c = omega (arith, c.before.before.row-at.ensures.1)
 
 pub offset_bounds-first-at-2 : goal.offset_bounds-first-at-2
+unfolding ROWS
 offset_bounds-first-at-2 c = omega (arith, c.before.before.row-at.ensures.1)
 
 pub bounds-first-at-2 : goal.bounds-first-at-2
+unfolding ROWS
 bounds-first-at-2 c = omega (arith, c.before.before.row-at.ensures.1)
 
 pub overflow_add-i : goal.overflow_add-i
+unfolding ROWS
 overflow_add-i c = omega arith
 
 pub loop-i-smaller : goal.loop-i-smaller
+unfolding ROWS
 loop-i-smaller c = omega arith

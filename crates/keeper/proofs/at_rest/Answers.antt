@@ -8,12 +8,13 @@ use Rattle.memory.specs.Layout.{BYTES, WORDS}
 use Rattle.keeper.proofs.Entries.{at_rest_lem}
 use borrow.Author.Rules.{rules}
 use Rattle.keeper.proofs.at_rest.Goals as goal
+use Rattle.keeper.proofs.at_rest.Goals.{After-empty-fresh}
 
-many_bytes : (c : goal.After-empty-fresh) → length c.empty-fresh.result.bytes-1 ≡ BYTES
+many_bytes : (c : After-empty-fresh) → length c.empty-fresh.result.bytes-1 ≡ BYTES
 unfolding BYTES ROWS LINKS
 many_bytes c = let g = c.empty-fresh.type-inv in search rules
 
-many_words : (c : goal.After-empty-fresh) → length c.empty-fresh.result.words-1 ≡ WORDS
+many_words : (c : After-empty-fresh) → length c.empty-fresh.result.words-1 ≡ WORDS
 unfolding WORDS ROWS
 many_words c = let g = c.empty-fresh.type-inv in search rules
 

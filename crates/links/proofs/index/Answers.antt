@@ -16,7 +16,7 @@ returns-then-many-gt-LINKS c =
 
 pub tallies-first-requires : goal.tallies-first-requires
 unfolding LINKS
-tallies-first-requires c κs = let z = c.if-many-gt-LINKS.false in omega arith
+tallies-first-requires c = let z = c.if-many-gt-LINKS.false in omega arith
 
 pub loop-p-init : goal.loop-p-init
 loop-p-init c = summed_none _ _ _ (c.tallies-first.ensures _)

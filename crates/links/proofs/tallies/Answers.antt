@@ -1,5 +1,6 @@
 -- `links::tallies` meets its contract. The invariant: the links passed are counted. Assumes nothing.
 use mathlib.Core.Path.{◌≡◌}
+use mathlib.Core.List.{[]}
 use Prim.Native.Nat.{◌-◌}
 use native.Mathlib.Omega.{arith}
 use Rattle.model.specs.Limits.{LINKS}
@@ -11,7 +12,7 @@ loop-i-init c = (omega arith, λ words. tallied_none _)
 
 pub consumer-requires : goal.consumer-requires
 unfolding LINKS
-consumer-requires c κs = omega arith
+consumer-requires c = omega arith
 
 pub overflow_add-next : goal.overflow_add-next
 unfolding LINKS

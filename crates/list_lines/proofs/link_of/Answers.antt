@@ -5,8 +5,9 @@ use Rattle.list_lines.specs.Numbers.{most}
 use Rattle.list_lines.specs.Lines.{link_of}
 use Rattle.list_lines.proofs.Judging.{judged_wrong, judged_large, judged_good}
 use Rattle.list_lines.proofs.link_of.Goals as goal
+use Rattle.list_lines.proofs.link_of.Goals.{After-most-worst}
 
-greatest : (c : goal.After-most-worst) →
+greatest : (c : After-most-worst) →
     let given = c.before.before.args in
     c.most-worst.result ≡ most given.consumer (most given.supplier given.flags)
 greatest c = c.most-worst.ensures.is ∙ rw c.before.most.ensures.is

@@ -9,6 +9,7 @@ use borrow.Author.Tests.{not-true, not-false}
 use Rattle.replay_text.specs.Sizes.{is_digit}
 use Rattle.list_lines.proofs.Reading.{number_none, number_all, number_on, number_stop, number_end, digit_range, capped_low}
 use Rattle.list_lines.proofs.number.Goals as goal
+use Rattle.list_lines.proofs.number.Goals.{Else-not-is_digit}
 
 -- an empty word
 pub returns-then-word-eq0 : goal.returns-then-word-eq0
@@ -28,12 +29,12 @@ returns-then-not-is_digit c =
     sym (number_stop word at.i at.value turn.loop-i-test.true (sym read.is_digit.ensures ∙ not-true _ c.if-not-is_digit.true-raw)) ∙ at.invariant.2
 
 -- a byte is one
-digit : (c : goal.Else-not-is_digit) →
+digit : (c : Else-not-is_digit) →
     let head = c.before.before.before.before in
     is_digit (get_or head.before.before.before.args.word.now head.loop-i.i 0) ≡ true
 digit c = sym c.before.is_digit.ensures ∙ not-false _ c.if-not-is_digit.false-raw
 
-range : (c : goal.Else-not-is_digit) →
+range : (c : Else-not-is_digit) →
     let head = c.before.before.before.before in
     let b = get_or head.before.before.before.args.word.now head.loop-i.i 0 in (48 ≤ b) × (b ≤ 57)
 range c = digit_range _ (digit c)

@@ -8,11 +8,12 @@ use Rattle.model.specs.Limits.{DEVICES, LINKS}
 use Rattle.list_make.specs.Making.{listed_devices, listed_links}
 use Rattle.list_make.proofs.Limits.{long_devices, long_links, all_there, makes, given_same}
 use Rattle.list_make.proofs.compile.Goals as goal
+use Rattle.list_make.proofs.compile.Goals.{After-links-2-1, After-gather-n, Start, Else-m-gt-LINK_BYTES}
 
-abbrev first : goal.After-links-2-1 → goal.After-gather-n
+abbrev first : After-links-2-1 → After-gather-n
 first l = l.before.before.before.before
 
-abbrev begun : goal.After-gather-n → goal.Start
+abbrev begun : After-gather-n → Start
 begun g = g.before.before.before.before
 
 -- too many devices
@@ -36,12 +37,12 @@ returns-then-m-gt-LINK_BYTES c =
     makes a.text.now a.table-1.now 0 (long_links (listed_devices a.text.now) (listed_links a.text.now) a.table-1.now (omega arith)) c.told-then-m-gt-LINK_BYTES.ensures (λ z. absurd (omega arith))
 
 -- where there are not, what was gathered is whole
-devices : (c : goal.Else-m-gt-LINK_BYTES) → let g = first c.before.before in take g.gather-n.result g.gather-n.last.1.1.0 ≡ listed_devices (begun g).args.text.now
+devices : (c : Else-m-gt-LINK_BYTES) → let g = first c.before.before in take g.gather-n.result g.gather-n.last.1.1.0 ≡ listed_devices (begun g).args.text.now
 devices c =
     let g = (first c.before.before).gather-n in
     all_there _ _ g.ensures.bytes g.ensures.buffer (let l = c.before.if-n-gt-DEVICE_BYTES.false in omega arith)
 
-links : (c : goal.Else-m-gt-LINK_BYTES) → let l = c.before.before in
+links : (c : Else-m-gt-LINK_BYTES) → let l = c.before.before in
     take l.before.gather-m.result l.before.gather-m.new.1.1.0 ≡ listed_links (begun (first l)).args.text.now
 links c =
     let g = c.before.before.before.gather-m in

@@ -4,9 +4,10 @@ use Prim.Native.Nat.{◌-◌}
 use native.Mathlib.Omega.{arith}
 use Rattle.list_text.proofs.Numbering.{faulting_start, faulting_more, faulting_large, faulting_wrong, faulting_none}
 use Rattle.list_text.proofs.fault_in.Goals as goal
+use Rattle.list_text.proofs.fault_in.Goals.{After-line_at-line, At-loop-start}
 
 -- where the loop stands as a line is read
-abbrev head_of : goal.After-line_at-line → goal.At-loop-start
+abbrev head_of : After-line_at-line → At-loop-start
 head_of c = c.before.before
 
 -- a number over 255
@@ -33,7 +34,7 @@ pub loop-start-init : goal.loop-start-init
 loop-start-init c = faulting_start _
 
 pub line_at-line-requires : goal.line_at-line-requires
-line_at-line-requires c κs = c.loop-start-test.true
+line_at-line-requires c = c.loop-start-test.true
 
 pub overflow_add-number : goal.overflow_add-number
 overflow_add-number c = omega arith

@@ -20,10 +20,10 @@ pub loop-start-init : goal.loop-start-init
 loop-start-init c = gathering_start _ _ _
 
 pub line_at-line-requires : goal.line_at-line-requires
-line_at-line-requires c κs = c.loop-start-test.true
+line_at-line-requires c = c.loop-start-test.true
 
 pub put_entry-at-requires : goal.put_entry-at-requires
-put_entry-at-requires c κs = omega arith
+put_entry-at-requires c = omega arith
 
 pub loop-start-smaller : goal.loop-start-smaller
 loop-start-smaller c = omega arith

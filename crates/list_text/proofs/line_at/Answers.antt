@@ -10,7 +10,7 @@ returns c =
     line_read stopped.before.before.requires stopped.stop_of-stop.ensures c.entry-entry.ensures
 
 pub stop_of-stop-requires : goal.stop_of-stop-requires
-stop_of-stop-requires c κs = c.before.requires
+stop_of-stop-requires c = c.before.requires
 
 pub overflow_add-result : goal.overflow_add-result
 overflow_add-result c = omega arith

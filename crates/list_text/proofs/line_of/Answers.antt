@@ -35,7 +35,7 @@ pub loop-start-init : goal.loop-start-init
 loop-start-init c = looking_start _ _ _
 
 pub line_at-line-requires : goal.line_at-line-requires
-line_at-line-requires c κs = c.loop-start-test.true
+line_at-line-requires c = c.loop-start-test.true
 
 pub overflow_sub-ahead : goal.overflow_sub-ahead
 overflow_sub-ahead c = omega arith

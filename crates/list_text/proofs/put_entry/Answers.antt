@@ -3,11 +3,12 @@
 use Rattle.model.proofs.Logic.{not_iff, not_fails}
 use Rattle.list_text.proofs.Gathering.{part_passed, link_passed, none_passed, part_stored, link_stored}
 use Rattle.list_text.proofs.put_entry.Goals as goal
+use Rattle.list_text.proofs.put_entry.Goals.{In-Part-2, Start, In-Link-2}
 
-abbrev in-part : goal.In-Part-2 → goal.Start
+abbrev in-part : In-Part-2 → Start
 in-part c = c.before.before.before
 
-abbrev in_link : goal.In-Link-2 → goal.Start
+abbrev in_link : In-Link-2 → Start
 in_link c = c.before.before.before
 
 -- a part

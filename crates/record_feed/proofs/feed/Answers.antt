@@ -9,18 +9,19 @@ use Rattle.memory.specs.Layout.{state_in}
 use Rattle.record_feed.proofs.Answering.{few_carried, sound_in, unsound_number, long_number, room_number, taken_number}
 use Rattle.record_feed.proofs.Answering.{fed_refused, fed_taken}
 use Rattle.record_feed.proofs.feed.Goals as goal
+use Rattle.record_feed.proofs.feed.Goals.{After-sound_by, After-index-first}
 
-abbrev indexed : goal.After-sound_by → goal.After-index-first
+abbrev indexed : After-sound_by → After-index-first
 indexed c = let lent = c.before.before in lent.before.before
 
-abbrev at-start : goal.After-sound_by → State
+abbrev at-start : After-sound_by → State
 at-start c =
     let lent = (indexed c).before.before in
     let start = lent.before.before.before in
     state_in start.args.bytes.now start.args.words.now
 
 -- the soundness test is the definition's, since the index is made from the links
-soundness : (c : goal.After-sound_by) → c.sound_by.result ≡ sound_test (at-start c)
+soundness : (c : After-sound_by) → c.sound_by.result ≡ sound_test (at-start c)
 soundness c = c.sound_by.ensures.is (indexed c).index-first.ensures
 
 -- 21
@@ -47,7 +48,7 @@ returns-then-replies-count c =
     record { number = sym number; untouched = λ n. (refl, refl, refl); is = λ a b. fed_refused _ _ 23 refl number }
 
 pub take_piece-requires : goal.take_piece-requires
-take_piece-requires c κs =
+take_piece-requires c =
     let lent = c.before.before in
     let room = lent.before.before in
     let u = room.before in

@@ -7,15 +7,16 @@ use Rattle.record_kinds.specs.Kinds.{no_bounds, bounds_table}
 use Rattle.record_kinds.proofs.Signs.{zero_allowed, through, signed_through, allowed_no, allowed_if}
 use borrow.Author.Rules.{rules}
 use Rattle.record_kinds.proofs.allowed.Goals as goal
+use Rattle.record_kinds.proofs.allowed.Goals.{After-struct_told-2-1, Start}
 
-abbrev start : goal.After-struct_told-2-1 → goal.Start
+abbrev start : After-struct_told-2-1 → Start
 start c = c.before.before.before.before
 
 -- a bound fits into 16 bits
-fits_least : (c : goal.After-struct_told-2-1) → SFits w16 (get_or bounds_table (start c).args.kind no_bounds).0
+fits_least : (c : After-struct_told-2-1) → SFits w16 (get_or bounds_table (start c).args.kind no_bounds).0
 fits_least c = search rules
 
-fits_greatest : (c : goal.After-struct_told-2-1) → SFits w16 (get_or bounds_table (start c).args.kind no_bounds).1
+fits_greatest : (c : After-struct_told-2-1) → SFits w16 (get_or bounds_table (start c).args.kind no_bounds).1
 fits_greatest c = search rules
 
 -- the value is 0

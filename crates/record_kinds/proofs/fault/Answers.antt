@@ -26,7 +26,7 @@ returns-then-n-device c =
     rw (le-leb _ _ k.before.if-kind-lt1.false, le-leb _ _ k.if-kind-gt-LAST.false, le-leb start.args.n start.args.r.device c.if-n-device.true)
 
 pub misplaced-requires : goal.misplaced-requires
-misplaced-requires c κs = let z = c.before.if-kind-gt-LAST.false in omega arith
+misplaced-requires c = let z = c.before.if-kind-gt-LAST.false in omega arith
 
 -- another device for a kind about the whole bench
 pub returns-then-misplaced : goal.returns-then-misplaced
@@ -37,7 +37,7 @@ returns-then-misplaced c =
     rw (le-leb _ _ k.before.if-kind-lt1.false, le-leb _ _ k.if-kind-gt-LAST.false, lt-leb _ _ d.if-n-device.false, ← c.before.misplaced.ensures, c.if-misplaced.true)
 
 pub allowed-requires : goal.allowed-requires
-allowed-requires c κs = let z = c.before.before.before.if-kind-gt-LAST.false in omega arith
+allowed-requires c = let z = c.before.before.before.if-kind-gt-LAST.false in omega arith
 
 -- well formed
 pub returns-then-allowed : goal.returns-then-allowed

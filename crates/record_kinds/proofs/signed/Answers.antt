@@ -5,8 +5,9 @@ use Prim.Native.Nat.{◌-◌, ◌<◌}
 use native.Mathlib.Omega.{arith}
 use Rattle.record_kinds.proofs.Signs.{low, signed_low, less, signed_high, fits, through}
 use Rattle.record_kinds.proofs.signed.Goals as goal
+use Rattle.record_kinds.proofs.signed.Goals.{Else-value-lt32768}
 
-small : (c : goal.Else-value-lt32768) → 65535 - c.before.args.value < 32768
+small : (c : Else-value-lt32768) → 65535 - c.before.args.value < 32768
 small c = let z = c.if-value-lt32768.false in omega arith
 
 -- not negative

@@ -22,12 +22,12 @@ pub loop-k-init : goal.loop-k-init
 loop-k-init c = let r = c.if-replies-count.false in turning_start (omega arith)
 
 pub record_in-record-requires : goal.record_in-record-requires
-record_in-record-requires c κs =
+record_in-record-requires c =
     let short = c.before.before.before in
     (whole_record c.before.loop-k.invariant c.loop-k-test.true, short.if-source-gt-PIECE.false)
 
 pub write_reply-requires : goal.write_reply-requires
-write_reply-requires c κs =
+write_reply-requires c =
     let stepped = c.before in
     let turn = stepped.before.before.before.before in
     reply_fits turn.before.loop-k.invariant turn.loop-k-test.true

@@ -10,23 +10,24 @@ use Rattle.record_loop.proofs.Joining.{joined_length, rest_after}
 use Rattle.record_loop.proofs.Looping.{turning_start, turning_end, led_joined}
 use borrow.Author.Rules.{rules}
 use Rattle.record_piece.proofs.answer_all.Goals as goal
+use Rattle.record_piece.proofs.answer_all.Goals.{Start, Else-used-lt1, Then-used-lt1, Else-used-piece-lt4}
 
-rows : (start : goal.Start) → start.args.carried.used ≤ length start.args.carried.bytes
+rows : (start : Start) → start.args.carried.used ≤ length start.args.carried.bytes
 rows start =
     let few = start.requires.few in
     let array = start.well_formed.1.1.1.0.1.1.0.1.0 in
     let long : length start.args.carried.bytes ≡ 3 = search rules in
     omega arith
 
-abbrev all-bytes : goal.Start → List ℕ
+abbrev all-bytes : Start → List ℕ
 all-bytes b = joined b.args.carried.bytes b.args.carried.used b.args.piece.now
 
 -- the start, from where bytes are carried
-abbrev carrying : goal.Else-used-lt1 → goal.Start
+abbrev carrying : Else-used-lt1 → Start
 carrying c = c.before.before.before
 
 -- nothing is carried: the records stand in the piece
-piece_fits : (c : goal.Then-used-lt1) → let start = c.before.before.before in Room 0 start.args.piece.now start.args.replies-1.now
+piece_fits : (c : Then-used-lt1) → let start = c.before.before.before in Room 0 start.args.piece.now start.args.replies-1.now
 piece_fits none =
     let start = none.before.before.before in
     let u = none.if-used-lt1.taken in
@@ -52,30 +53,30 @@ returns-then-used-piece-lt4 c =
     record { is = λ z. turning_end (turning_start (let r = start.pre.room in omega arith)) (let l = c.if-used-piece-lt4.true in omega arith) z }
 
 -- there is a whole record, and room for its reply
-whole_record : (c : goal.Else-used-piece-lt4) → 4 ≤ length (all-bytes (carrying c.before))
+whole_record : (c : Else-used-piece-lt4) → 4 ≤ length (all-bytes (carrying c.before))
 whole_record c =
     let start = carrying c.before in
     let l = c.if-used-piece-lt4.false in
     let long = joined_length start.args.carried.bytes start.args.piece.now start.args.carried.used (rows start) in
     omega arith
 
-room_for_one : (c : goal.Else-used-piece-lt4) → 4 ≤ length (carrying c.before).args.replies-1.now
+room_for_one : (c : Else-used-piece-lt4) → 4 ≤ length (carrying c.before).args.replies-1.now
 room_for_one c =
     let l = c.if-used-piece-lt4.false in
     let r = (carrying c.before).requires.room in
     omega arith
 
-used_up : (start : goal.Start) → start.args.carried.used ≤ 4
+used_up : (start : Start) → start.args.carried.used ≤ 4
 used_up start = let few = start.requires.few in omega arith
 
 -- the first record, then the others
 pub answer_first-requires : goal.answer_first-requires
-answer_first-requires c κs =
+answer_first-requires c =
     let some = c.before.before.before in
     ((carrying some.before).requires.few, room_for_one some)
 
 pub answer_rest-requires : goal.answer_rest-requires
-answer_rest-requires c κs =
+answer_rest-requires c =
     let known = c.before.before.before in
     let answered = known.before.before in
     let some = answered.before.before.before.before in

@@ -2,8 +2,9 @@
 use native.Mathlib.Omega.{arith}
 use Rattle.record_loop.specs.Runs.{Room}
 use Rattle.record_piece.proofs.answer_first.Goals as goal
+use Rattle.record_piece.proofs.answer_first.Goals.{After-head-front}
 
-first_fits : (c : goal.After-head-front) → let start = c.before.before.before.before in Room 0 c.head-front.result start.args.replies-1.now
+first_fits : (c : After-head-front) → let start = c.before.before.before.before in Room 0 c.head-front.result start.args.replies-1.now
 first_fits headed =
     let start = headed.before.before.before.before in
     let room = start.pre.1 in

@@ -4,6 +4,7 @@ use mathlib.Core.Path.{refl}
 use native.Mathlib.Omega.{arith}
 use Rattle.record_loop.specs.Runs.{Room}
 use Rattle.record_piece.proofs.answer_piece.Goals as goal
+use Rattle.record_piece.proofs.answer_piece.Goals.{Else-used-gt3, Start, Else-replies-whole}
 
 pub returns-then-used-gt3 : goal.returns-then-used-gt3
 returns-then-used-gt3 c =
@@ -23,21 +24,21 @@ returns-then-replies-whole c =
     record { is = λ r. let room = r.room in absurd (omega arith); left = λ r. let room = r.room in absurd (omega arith); untouched = λ n. (refl, refl, refl) }
 
 -- the start, from past the first test
-abbrev begun : goal.Else-used-gt3 → goal.Start
+abbrev begun : Else-used-gt3 → Start
 begun c = c.before.before.before.before
 
 -- the tests passed
-fits : (c : goal.Else-replies-whole) → let start = begun c.before.before in
+fits : (c : Else-replies-whole) → let start = begun c.before.before in
     Room start.args.carried.used start.args.piece.now start.args.replies-1.now
 fits c =
     let short = c.before in
     record { few = short.before.if-used-gt3.false; short = short.if-piece-gt-PIECE.false; room = c.if-replies-whole.false }
 
 pub answer_all-requires : goal.answer_all-requires
-answer_all-requires c κs = fits c.before.before.before
+answer_all-requires c = fits c.before.before.before
 
 pub rest-requires : goal.rest-requires
-rest-requires c κs =
+rest-requires c =
     let answered = c.before.before in
     let roomy = answered.before.before.before.before in
     let f = fits roomy in

@@ -7,8 +7,9 @@ use Rattle.record_loop.specs.Runs.{Room}
 use Rattle.record_loop.proofs.Joining.{part_lent, part_back}
 use borrow.Author.Rules.{rules}
 use Rattle.record_piece.proofs.answer_rest.Goals as goal
+use Rattle.record_piece.proofs.answer_rest.Goals.{Start}
 
-rest_fits : (start : goal.Start) → let piece = start.args.piece.now in let out = start.args.replies-1.now in
+rest_fits : (start : Start) → let piece = start.args.piece.now in let out = start.args.replies-1.now in
     Room 0 (take (length piece - start.args.from) (drop start.args.from piece)) (take (length out - 4) (drop 4 out))
 rest_fits start =
     let piece = start.args.piece.now in

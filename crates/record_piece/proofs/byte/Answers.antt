@@ -6,8 +6,9 @@ use lib.ListN.{length}
 use Rattle.record_loop.proofs.Joining.{carried_at, piece_at}
 use borrow.Author.Rules.{rules}
 use Rattle.record_piece.proofs.byte.Goals as goal
+use Rattle.record_piece.proofs.byte.Goals.{Start}
 
-few : (c : goal.Start) → c.args.used ≤ length c.args.t1
+few : (c : Start) → c.args.used ≤ length c.args.t1
 few c = search rules
 
 -- a carried byte

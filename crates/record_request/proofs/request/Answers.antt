@@ -8,8 +8,9 @@ use Rattle.memory.specs.Layout.{state_in}
 use Rattle.request_hold.proofs.Chained.{enable_stays, disable_stays, get_stays, put_stays}
 use Rattle.record_request.proofs.Dispatching.{line_12, sleeping, past, past_sleeping, is_last, last_allowed}
 use Rattle.record_request.proofs.request.Goals as goal
+use Rattle.record_request.proofs.request.Goals.{Else-both}
 
-abbrev at-start : goal.Else-both → State
+abbrev at-start : Else-both → State
 at-start c = let a = c.before.before.args in state_in a.bytes.now a.words.now
 
 -- kinds 6, 7 and 8

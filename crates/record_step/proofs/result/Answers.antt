@@ -5,8 +5,9 @@ use Rattle.model.specs.State.{State}
 use Rattle.memory.specs.Layout.{state_in}
 use Rattle.record_step.proofs.Stepping.{result_none, result_other, target_is, result_suspend, result_resume, result_idle}
 use Rattle.record_step.proofs.result.Goals as goal
+use Rattle.record_step.proofs.result.Goals.{Start}
 
-abbrev at-start : goal.Start → State
+abbrev at-start : Start → State
 at-start b = state_in b.args.bytes.now b.args.words.now
 
 -- none is open

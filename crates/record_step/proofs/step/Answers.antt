@@ -5,8 +5,9 @@ use Rattle.model.specs.State.{State}
 use Rattle.memory.specs.Layout.{state_in}
 use Rattle.record_step.proofs.Stepping.{well_formed, is_request, record_refused, record_result, record_busy, record_asks}
 use Rattle.record_step.proofs.step.Goals as goal
+use Rattle.record_step.proofs.step.Goals.{Start}
 
-abbrev at-start : goal.Start → State
+abbrev at-start : Start → State
 at-start b = state_in b.args.bytes.now b.args.words.now
 
 -- refusals 11 to 13

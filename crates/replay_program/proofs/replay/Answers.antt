@@ -9,23 +9,24 @@ use Rattle.table.proofs.Handing.{refused, taken}
 use Rattle.replay_pieces.specs.Poured.{Replayed}
 use Rattle.replay_session.proofs.Sessions.{ran_done, ran_failed, judged_refused, judged_taken}
 use Rattle.replay_program.proofs.replay.Goals as goal
+use Rattle.replay_program.proofs.replay.Goals.{After-named-session, In-Taken-1, After-load-loaded}
 
-abbrev matched : goal.After-named-session → goal.In-Taken-1
+abbrev matched : After-named-session → In-Taken-1
 matched f = f.before.before
 
-abbrev loaded : goal.After-named-session → goal.After-load-loaded
+abbrev loaded : After-named-session → After-load-loaded
 loaded f = (matched f).before.before
 
-abbrev table : goal.After-named-session → List ℕ
+abbrev table : After-named-session → List ℕ
 table f = (loaded f).before.before.args.table.now
 
-zero : (f : goal.After-named-session) → (load_of (table f)).answer.number ≡ 0
+zero : (f : After-named-session) → (load_of (table f)).answer.number ≡ 0
 zero f =
     let load = (loaded f).load-loaded in
     sym (ap (λ (l : Loaded). l.answer.number) load.ensures) ∙ taken load.result.answer (matched f).in-Taken.keys1
 
 -- what was fed, from its bench on
-replayed : (f : goal.After-named-session) → Replayed (table f) f.named-session.result.progress-1
+replayed : (f : After-named-session) → Replayed (table f) f.named-session.result.progress-1
 replayed f =
     let load = (loaded f).load-loaded in
     record {
@@ -50,7 +51,7 @@ pub returns-in_default-end : goal.returns-in_default-end
 returns-in_default-end c = let f = c.before in judged_taken (zero f) f.named-session.ensures.ran
 
 pub keep-kept-requires : goal.keep-kept-requires
-keep-kept-requires c κs = replayed c.before.before.before
+keep-kept-requires c = replayed c.before.before.before
 
 -- the bench cannot be saved
 pub returns-in_default-kept : goal.returns-in_default-kept
@@ -59,7 +60,7 @@ returns-in_default-kept c =
     judged_taken (zero kept.before.before.before.before) kept.keep-kept.ensures
 
 pub tell-requires : goal.tell-requires
-tell-requires c κs =
+tell-requires c =
     let kept = c.before.before in
     replayed kept.before.before.before.before
 

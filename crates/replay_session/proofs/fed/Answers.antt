@@ -28,7 +28,7 @@ slice_bounds-write_replies-end c =
 
 -- what is written
 pub write_replies-is_written-requires : goal.write_replies-is_written-requires
-write_replies-is_written-requires c κs =
+write_replies-is_written-requires c =
     let tested = c.before.before in
     let numbered = tested.before in
     let fed = numbered.before.before.before in

@@ -22,7 +22,7 @@ loop-i-init c = (omega arith, λ words j a b. absurd (omega arith))
 
 pub link_down-requires : goal.link_down-requires
 unfolding LINKS
-link_down-requires c κs = let l = c.before.before.if-end-gt-LINKS.false in omega (arith, c.loop-i-test.true)
+link_down-requires c = let l = c.before.before.if-end-gt-LINKS.false in omega (arith, c.loop-i-test.true)
 
 -- a link of p has its supplier down
 pub returns-then-link_down : goal.returns-then-link_down

@@ -11,8 +11,9 @@ use Rattle.memory.specs.Layout.{state_in}
 use Rattle.memory.proofs.Readiness.{full_long}
 use Rattle.request_suspend.proofs.Changes.{rest_code, code_of, idle_stops, idle_asks, suspend_stops, suspend_asks, ends, slept_stop, slept_go}
 use Rattle.request_suspend.proofs.let_sleep.Goals as goal
+use Rattle.request_suspend.proofs.let_sleep.Goals.{After-first_code-code, Else-either, After-either, After-put_first-put}
 
-abbrev going : goal.After-first_code-code → goal.Else-either
+abbrev going : After-first_code-code → Else-either
 going c =
     let tested = c.before in
     let own = tested.before.before.before in
@@ -21,15 +22,15 @@ going c =
     awake.before.before.before
 
 -- the put that kind 6 begins with
-abbrev begun : goal.After-either → goal.After-put_first-put
+abbrev begun : After-either → After-put_first-put
 begun c = c.before.before.before
 
 -- the words after it
-abbrev put-words : goal.After-first_code-code → List ℕ
+abbrev put-words : After-first_code-code → List ℕ
 put-words c = (begun (going c).before).put_first-put.new.0
 
 -- the code is the kind's
-coded : (c : goal.After-first_code-code) → let a = (begun (going c).before).before.before.args in
+coded : (c : After-first_code-code) → let a = (begun (going c).before).before.before.args in
     c.first_code-code.result ≡ rest_code (state_in a.bytes.now (put-words c)) a.p (ltb a.kind 8)
 coded c =
     let tested = c.before in
@@ -41,7 +42,7 @@ coded c =
     code_of _ _ _ tested.suspend_test.ensures waking sleeping own.choose-own.ensures c.first_code-code.ensures
 
 -- whether the request ends there
-ends_by : (c : goal.After-either) → let put = (begun c).put_first-put in let a = (begun c).before.before.args in
+ends_by : (c : After-either) → let put = (begun c).put_first-put in let a = (begun c).before.before.args in
     ends a.kind (state_in a.bytes.now put.last.0) a.p put.result ≡ c.either.result
 ends_by c = sym (rw (c.before.still_used.ensures (begun c).before.before.args.bytes.now) at c.either.ensures)
 

@@ -10,8 +10,9 @@ use Rattle.memory.proofs.Readiness.{long_turned, then_callback, stays_full}
 use Rattle.counts.proofs.Turning.{turned_on}
 use Rattle.request_wake.proofs.Changes.{result_goes, result_failed, goes_indexed, goes_target}
 use Rattle.request_wake.proofs.resume_result.Goals as goal
+use Rattle.request_wake.proofs.resume_result.Goals.{Start}
 
-abbrev at-start : goal.Start → State
+abbrev at-start : Start → State
 at-start b = state_in b.args.bytes.now b.args.words.now
 
 -- it succeeded: the wake goes on

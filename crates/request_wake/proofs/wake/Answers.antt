@@ -10,28 +10,29 @@ use Rattle.memory.specs.Layout.{state_in}
 use Rattle.links.proofs.Order.{listed}
 use Rattle.request_wake.proofs.Changes.{lowest_asleep, Clear, wake_error, wake_disabled, wake_active, wake_barred, wake_asks}
 use Rattle.request_wake.proofs.wake.Goals as goal
+use Rattle.request_wake.proofs.wake.Goals.{Start, Else-error-gt0, Else-depth-gt0, Else-status-eq-ACTIVE}
 
-abbrev at-start : goal.Start → State
+abbrev at-start : Start → State
 at-start b = state_in b.args.bytes.now b.args.words.now
 
 -- the start, from past the first test; and from one test to the one before
-abbrev start : goal.Else-error-gt0 → goal.Start
+abbrev start : Else-error-gt0 → Start
 start c = c.before.before.before
 
-abbrev first-passed : goal.Else-depth-gt0 → goal.Else-error-gt0
+abbrev first-passed : Else-depth-gt0 → Else-error-gt0
 first-passed c = c.before.before.before
 
-abbrev second-passed : goal.Else-status-eq-ACTIVE → goal.Else-depth-gt0
+abbrev second-passed : Else-status-eq-ACTIVE → Else-depth-gt0
 second-passed c = c.before.before.before
 
 -- what is known past each test
-no_error : (c : goal.Else-error-gt0) → ltb 0 (error_at (at-start (start c)) (start c).args.p) ≡ false
+no_error : (c : Else-error-gt0) → ltb 0 (error_at (at-start (start c)) (start c).args.p) ≡ false
 no_error c = rw (← c.before.error.ensures) (le-ltb _ _ c.if-error-gt0.false)
 
-clear : (c : goal.Else-depth-gt0) → let b = start (first-passed c) in Clear (at-start b) b.args.p
+clear : (c : Else-depth-gt0) → let b = start (first-passed c) in Clear (at-start b) b.args.p
 clear c = record { error = no_error (first-passed c); depth = rw (← c.before.depth.ensures) (le-ltb _ _ c.if-depth-gt0.false) }
 
-inactive : (c : goal.Else-status-eq-ACTIVE) → let b = start (first-passed (second-passed c)) in eqb (status_at (at-start b) b.args.p) ACTIVE ≡ false
+inactive : (c : Else-status-eq-ACTIVE) → let b = start (first-passed (second-passed c)) in eqb (status_at (at-start b) b.args.p) ACTIVE ≡ false
 inactive c = rw (← c.before.status.ensures) (ne_eqb _ _ c.if-status-eq-ACTIVE.false)
 
 -- it has an error

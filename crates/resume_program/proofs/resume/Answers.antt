@@ -9,25 +9,26 @@ use Rattle.saved_form.specs.Restoring.{Restored, restore_of}
 use Rattle.replay_session.proofs.Sessions.{ran_done, ran_failed, judged_refused, judged_taken}
 use Rattle.resume_program.specs.Resumed.{Resumed}
 use Rattle.resume_program.proofs.resume.Goals as goal
+use Rattle.resume_program.proofs.resume.Goals.{After-named-session, After-restore_number-number, After-restore-restored}
 
-abbrev numbered : goal.After-named-session → goal.After-restore_number-number
+abbrev numbered : After-named-session → After-restore_number-number
 numbered f = f.before.before
 
-abbrev restored : goal.After-restore_number-number → goal.After-restore-restored
+abbrev restored : After-restore_number-number → After-restore-restored
 restored n = n.before.before
 
-abbrev bytes : goal.After-restore_number-number → List ℕ
+abbrev bytes : After-restore_number-number → List ℕ
 bytes n = (restored n).before.before.args.state.now
 
-number : (n : goal.After-restore_number-number) → n.restore_number-number.result ≡ (restore_of (bytes n)).number
+number : (n : After-restore_number-number) → n.restore_number-number.result ≡ (restore_of (bytes n)).number
 number n = n.restore_number-number.ensures ∙ ap (λ (r : Restored). r.number) (restored n).restore-restored.ensures
 
 -- the state is taken
-zero : (f : goal.After-named-session) → (restore_of (bytes (numbered f))).number ≡ 0
+zero : (f : After-named-session) → (restore_of (bytes (numbered f))).number ≡ 0
 zero f = sym (number (numbered f)) ∙ f.before.if-number-ne0.false
 
 -- what was fed, from its bench on
-resumed : (f : goal.After-named-session) → Resumed (bytes (numbered f)) f.named-session.result.progress-1
+resumed : (f : After-named-session) → Resumed (bytes (numbered f)) f.named-session.result.progress-1
 resumed f =
     let n = numbered f in
     let restore = (restored n).restore-restored in
@@ -51,7 +52,7 @@ pub returns-in_default : goal.returns-in_default
 returns-in_default c = let f = c.before in judged_taken (zero f) f.named-session.ensures.ran
 
 pub keep-kept-requires : goal.keep-kept-requires
-keep-kept-requires c κs = resumed c.before.before.before
+keep-kept-requires c = resumed c.before.before.before
 
 -- the bench cannot be saved
 pub returns-in_default-kept : goal.returns-in_default-kept
@@ -60,7 +61,7 @@ returns-in_default-kept c =
     judged_taken (zero kept.before.before.before.before) kept.keep-kept.ensures
 
 pub tell-requires : goal.tell-requires
-tell-requires c κs =
+tell-requires c =
     let kept = c.before.before in
     resumed kept.before.before.before.before
 

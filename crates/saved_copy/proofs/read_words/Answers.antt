@@ -13,7 +13,7 @@ pub overflow_mul-j : goal.overflow_mul-j
 overflow_mul-j c = omega (arith, c.before.before.least-count.ensures)
 
 pub read_word-requires : goal.read_word-requires
-read_word-requires c κs = omega (arith, c.before.before.least-count.ensures)
+read_word-requires c = omega (arith, c.before.before.least-count.ensures)
 
 pub offset_bounds-into-j : goal.offset_bounds-into-j
 offset_bounds-into-j c = omega (arith, c.before.before.before.least-count.ensures)

@@ -18,7 +18,7 @@ pub bounds-from-j : goal.bounds-from-j
 bounds-from-j c = omega (arith, c.before.before.before.before.least-count.ensures)
 
 pub write_word-requires : goal.write_word-requires
-write_word-requires c κs =
+write_word-requires c =
     let loop = c.before.before.before in
     let z = loop.loop-j.invariant.long in
     omega (arith, loop.before.least-count.ensures)

@@ -7,7 +7,7 @@ use Rattle.saved_read.proofs.cells_of.Goals as goal
 
 pub fill-requires : goal.fill-requires
 unfolding BYTES WORDS ROWS LINKS
-fill-requires c κs =
+fill-requires c =
     let made = c.before.before.before.before in
     let fresh = made.refused-fresh.ensures in
     version1_fits _ _ _ made.before.before.requires (zeros_long fresh.1) (zeros_long fresh.2)

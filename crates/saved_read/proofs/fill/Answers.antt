@@ -7,16 +7,17 @@ use Rattle.saved_form.specs.Restoring.{version1}
 use Rattle.saved_read.proofs.Laying.{filling_none, one_fits, filling_one, filling_all}
 use borrow.Author.Rules.{rules}
 use Rattle.saved_read.proofs.fill.Goals as goal
+use Rattle.saved_read.proofs.fill.Goals.{Start}
 
 -- the table has all its spans
-many : (c : goal.Start) → length c.args.t2 ≡ length version1
+many : (c : Start) → length c.args.t2 ≡ length version1
 many c = let g = c.well_formed.1.0 in search rules
 
 pub loop-k-init : goal.loop-k-init
 loop-k-init c = filling_none _ _ _ _ c.before.before.before.requires
 
 pub place-requires : goal.place-requires
-place-requires c κs =
+place-requires c =
     let turn = c.before.before.before in
     let lent = turn.before.before in
     let z = many lent.before.before.before in

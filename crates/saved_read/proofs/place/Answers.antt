@@ -3,7 +3,7 @@ use Rattle.saved_read.proofs.Laying.{fits_words, fits_bytes, placed_words, place
 use Rattle.saved_read.proofs.place.Goals as goal
 
 pub lay_words-requires : goal.lay_words-requires
-lay_words-requires c κs =
+lay_words-requires c =
     let chosen = c.before in
     fits_words chosen.before.before.before.before.requires chosen.if-span.true
 
@@ -15,7 +15,7 @@ returns-then-span c =
     placed_words _ _ _ _ chosen.if-span.true laid.lay_words.ensures
 
 pub lay_bytes-requires : goal.lay_bytes-requires
-lay_bytes-requires c κs =
+lay_bytes-requires c =
     let chosen = c.before in
     fits_bytes chosen.before.before.before.before.requires chosen.if-span.false
 

@@ -48,7 +48,7 @@ returns-then-f-ne-FORM c =
 
 pub cells_of-requires : goal.cells_of-requires
 unfolding FORM BYTES WORDS ROWS LINKS
-cells_of-requires c κs = c.if-f-ne-FORM.false
+cells_of-requires c = c.if-f-ne-FORM.false
 
 -- read
 pub returns : goal.returns

@@ -8,12 +8,13 @@ use Rattle.saved_form.specs.Form.{FORM, header}
 use Rattle.saved_write.proofs.Forming.{formed, no_room, written}
 use borrow.Author.Rules.{rules}
 use Rattle.saved_write.proofs.write.Goals as goal
+use Rattle.saved_write.proofs.write.Goals.{Start}
 
-many_bytes : (c : goal.Start) → length c.args.t1 ≡ BYTES
+many_bytes : (c : Start) → length c.args.t1 ≡ BYTES
 unfolding BYTES ROWS LINKS
 many_bytes c = let g = c.well_formed.0 in search rules
 
-many_words : (c : goal.Start) → length c.args.t2 ≡ WORDS
+many_words : (c : Start) → length c.args.t2 ≡ WORDS
 unfolding WORDS ROWS
 many_words c = let g = c.well_formed.1.0 in search rules
 

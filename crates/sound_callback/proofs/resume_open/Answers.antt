@@ -9,8 +9,9 @@ use Rattle.model.proofs.Chains.{and_stop, and_go}
 use Rattle.memory.specs.Layout.{state_in}
 use Rattle.sound_callback.proofs.Opening.{listed_in, resume_last}
 use Rattle.sound_callback.proofs.resume_open.Goals as goal
+use Rattle.sound_callback.proofs.resume_open.Goals.{Start}
 
-abbrev at-start : goal.Start → State
+abbrev at-start : Start → State
 at-start b = state_in b.args.bytes.now b.args.words.now
 
 -- the target is no device

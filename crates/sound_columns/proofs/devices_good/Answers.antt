@@ -42,7 +42,6 @@ returns c =
           b1.both.ensures b2.both-2.ensures b3.both-columns.ensures b4.both-counts.ensures b5.both-supply.ensures b6.both-3.ensures c.both-4.ensures;
     }
 
-unfolding LINKS
-
 pub recount_linked-links-requires : goal.recount_linked-links-requires
-recount_linked-links-requires c κs = omega arith
+unfolding LINKS
+recount_linked-links-requires c = omega arith

@@ -17,10 +17,10 @@ returns c =
           (supplier2.supplier-2.ensures words) c.comes_before.ensures;
     }
 
-unfolding LINKS
-
 pub overflow_add-i : goal.overflow_add-i
+unfolding LINKS
 overflow_add-i c = omega arith
 
 pub overflow_add-i-2 : goal.overflow_add-i-2
+unfolding LINKS
 overflow_add-i-2 c = omega arith

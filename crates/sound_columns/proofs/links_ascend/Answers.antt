@@ -14,16 +14,18 @@ loop-i-preserved c = let one = c.before in (omega arith, says_next _ _ one.link_
 pub returns : goal.returns
 returns c = says_done _ _ _ c.before.loop-i.invariant.0 (omega arith) c.before.loop-i.invariant.1
 
-unfolding LINKS
-
 pub overflow_add-i : goal.overflow_add-i
+unfolding LINKS
 overflow_add-i c = omega arith
 
 pub link_ascends-requires : goal.link_ascends-requires
-link_ascends-requires c κs = omega arith
+unfolding LINKS
+link_ascends-requires c = omega arith
 
 pub overflow_add-i-in-loop-i : goal.overflow_add-i-in-loop-i
+unfolding LINKS
 overflow_add-i-in-loop-i c = omega arith
 
 pub loop-i-smaller : goal.loop-i-smaller
+unfolding LINKS
 loop-i-smaller c = omega arith

@@ -1,7 +1,7 @@
 -- `sound_columns::recount_linked` meets its contract. The invariant: the tallies of the links passed. Assumes nothing.
 -- the counts after k links
 use mathlib.Core.Path.{◌≡◌, ◌∙◌, ap}
-use mathlib.Core.List.{List}
+use mathlib.Core.List.{List, []}
 use Prim.Native.Nat.{ℕ, ◌+◌, ◌-◌, ◌≤◌}
 use native.Mathlib.Omega.{arith}
 use lib.ListN.{get_or}
@@ -50,22 +50,26 @@ returns c =
     let end = c.before.loop-k in
     record { is = λ words e. let f : end.k ≡ _ = last _ _ _ end.invariant.0 (omega arith) e in tallied_all (rw f at (end.invariant.1 words)) }
 
-unfolding ROWS LINKS
-
 pub offset_bounds-counts-q : goal.offset_bounds-counts-q
+unfolding ROWS LINKS
 offset_bounds-counts-q c = omega arith
 
 pub bounds-counts-q : goal.bounds-counts-q
+unfolding ROWS LINKS
 bounds-counts-q c = omega arith
 
 pub offset_bounds-counts-q-in-loop-k : goal.offset_bounds-counts-q-in-loop-k
+unfolding ROWS LINKS
 offset_bounds-counts-q-in-loop-k c = omega arith
 
 pub bounds-counts-q-in-loop-k : goal.bounds-counts-q-in-loop-k
+unfolding ROWS LINKS
 bounds-counts-q-in-loop-k c = omega arith
 
 pub overflow_add-k : goal.overflow_add-k
+unfolding ROWS LINKS
 overflow_add-k c = omega arith
 
 pub loop-k-smaller : goal.loop-k-smaller
+unfolding ROWS LINKS
 loop-k-smaller c = omega arith

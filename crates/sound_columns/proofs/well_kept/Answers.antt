@@ -43,10 +43,10 @@ returns c =
     kept_all _ _ (rw n at some.if-n-lt1.false) (rw n at few.if-n-gt-DEVICES.false) (rw m at fewlinks.if-m-gt-LINKS.false) ((wiring.wiring_good-wiring.ensures _).is (sym n) (sym m))
     (devices.devices_good-devices.ensures.is (sym n) (sym m)) c.both.ensures
 
-unfolding DEVICES LINKS
-
 pub wiring_good-wiring-requires : goal.wiring_good-wiring-requires
-wiring_good-wiring-requires c κs = omega arith
+unfolding DEVICES LINKS
+wiring_good-wiring-requires c = omega arith
 
 pub devices_good-devices-requires : goal.devices_good-devices-requires
-devices_good-devices-requires c κs = omega arith
+unfolding DEVICES LINKS
+devices_good-devices-requires c = omega arith

@@ -46,7 +46,6 @@ returns c =
           b1.both.ensures b2.both-2.ensures b3.both-3.ensures b4.both-columns.ensures b5.both-4.ensures b6.both-5.ensures c.both-6.ensures;
     }
 
-unfolding LINKS
-
 pub links_ascend-ascend-requires : goal.links_ascend-ascend-requires
-links_ascend-ascend-requires c κs = omega arith
+unfolding LINKS
+links_ascend-ascend-requires c = omega arith

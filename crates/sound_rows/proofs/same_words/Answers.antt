@@ -22,16 +22,18 @@ pub returns : goal.returns
 unfolding ROWS same_test
 returns c = all_done _ ROWS _ c.before.loop-p.invariant.0 (omega arith) c.before.loop-p.invariant.1
 
-unfolding ROWS
-
 pub offset_bounds-col-p : goal.offset_bounds-col-p
+unfolding ROWS
 offset_bounds-col-p c = omega arith
 
 pub bounds-col-p : goal.bounds-col-p
+unfolding ROWS
 bounds-col-p c = omega arith
 
 pub overflow_add-p : goal.overflow_add-p
+unfolding ROWS
 overflow_add-p c = omega arith
 
 pub loop-p-smaller : goal.loop-p-smaller
+unfolding ROWS
 loop-p-smaller c = omega arith

@@ -12,19 +12,20 @@ use Rattle.memory.specs.Layout.{BYTES, WORDS}
 use Rattle.saved_form.specs.Form.{FORM}
 use Rattle.state_file.proofs.Keeping.{sound_saved, unsound_refused, form_saved}
 use Rattle.state_file.proofs.keep.Goals as goal
+use Rattle.state_file.proofs.keep.Goals.{After-save_number-number, After-save-saving, Start}
 
-abbrev saving : goal.After-save_number-number → goal.After-save-saving
+abbrev saving : After-save_number-number → After-save-saving
 saving n = n.before.before
 
-abbrev begun : goal.After-save-saving → goal.Start
+abbrev begun : After-save-saving → Start
 begun s = s.before.before.before.before
 
 -- the arrays of a bench have their lengths by its type
-many_bytes : (c : goal.Start) → length c.args.bench.bytes-1 ≡ BYTES
+many_bytes : (c : Start) → length c.args.bench.bytes-1 ≡ BYTES
 unfolding BYTES ROWS LINKS
 many_bytes c = let g = c.well_formed.1.0 in search rules
 
-many_words : (c : goal.Start) → length c.args.bench.words ≡ WORDS
+many_words : (c : Start) → length c.args.bench.words ≡ WORDS
 unfolding WORDS ROWS
 many_words c = let g = c.well_formed.1.0 in search rules
 
@@ -57,7 +58,7 @@ returns-then-number-ne0 c =
 
 pub named-requires : goal.named-requires
 unfolding FORM BYTES WORDS ROWS LINKS
-named-requires c κs =
+named-requires c =
     let tested = c.before in
     let s = saving tested.before in
     let z = sym tested.before.save_number-number.ensures ∙ tested.if-number-ne0.false in

@@ -10,37 +10,38 @@ use borrow.Author.Tests.{lt-ltb, le-ltb, not-true, not-false}
 use Rattle.model.specs.Logic.{if◌then◌else◌}
 use Rattle.model.specs.Table.{mark_good, version_good, limits_good, length_good, table_answer}
 use Rattle.table.proofs.judge.Goals as goal
+use Rattle.table.proofs.judge.Goals.{Else-t-lt7, Else-not-mark_good, Else-not-version_good, Else-not-limits_good, Else-not-length_good}
 
-abbrev bytes : goal.Else-t-lt7 → List ℕ
+abbrev bytes : Else-t-lt7 → List ℕ
 bytes c = c.before.before.args.t.now
 
 -- the places after the tests that a table passed
-abbrev after-short : goal.Else-not-mark_good → goal.Else-t-lt7
+abbrev after-short : Else-not-mark_good → Else-t-lt7
 after-short c = c.before.before
 
-abbrev after-mark : goal.Else-not-version_good → goal.Else-not-mark_good
+abbrev after-mark : Else-not-version_good → Else-not-mark_good
 after-mark c = c.before.before
 
-abbrev after-version : goal.Else-not-limits_good → goal.Else-not-version_good
+abbrev after-version : Else-not-limits_good → Else-not-version_good
 after-version c = c.before.before
 
-abbrev after-limits : goal.Else-not-length_good → goal.Else-not-limits_good
+abbrev after-limits : Else-not-length_good → Else-not-limits_good
 after-limits c = c.before.before
 
 -- what each of those tests said
-long : (c : goal.Else-t-lt7) → ltb (length (bytes c)) 7 ≡ false
+long : (c : Else-t-lt7) → ltb (length (bytes c)) 7 ≡ false
 long c = le-ltb _ _ c.if-t-lt7.false
 
-marked : (c : goal.Else-not-mark_good) → mark_good (bytes (after-short c)) ≡ true
+marked : (c : Else-not-mark_good) → mark_good (bytes (after-short c)) ≡ true
 marked c = sym c.before.mark_good.ensures ∙ not-false c.before.mark_good.result c.if-not-mark_good.false-raw
 
-versioned : (c : goal.Else-not-version_good) → version_good (bytes (after-short (after-mark c))) ≡ true
+versioned : (c : Else-not-version_good) → version_good (bytes (after-short (after-mark c))) ≡ true
 versioned c = sym c.before.version_good.ensures ∙ not-false c.before.version_good.result c.if-not-version_good.false-raw
 
-limited : (c : goal.Else-not-limits_good) → limits_good (bytes (after-short (after-mark (after-version c)))) ≡ true
+limited : (c : Else-not-limits_good) → limits_good (bytes (after-short (after-mark (after-version c)))) ≡ true
 limited c = sym c.before.limits_good.ensures ∙ not-false c.before.limits_good.result c.if-not-limits_good.false-raw
 
-exact : (c : goal.Else-not-length_good) → length_good (bytes (after-short (after-mark (after-version (after-limits c))))) ≡ true
+exact : (c : Else-not-length_good) → length_good (bytes (after-short (after-mark (after-version (after-limits c))))) ≡ true
 exact c = sym c.before.length_good.ensures ∙ not-false c.before.length_good.result c.if-not-length_good.false-raw
 
 -- shorter than the head of a table

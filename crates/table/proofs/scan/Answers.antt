@@ -8,17 +8,18 @@ use borrow.Author.Tests.{not-true, not-false}
 use Rattle.model.specs.Table.{link_fits}
 use Rattle.table.proofs.Scanning.{pass_device, pass_link, good_link, misfit, descends, stop_device, stop_link, stop_end}
 use Rattle.table.proofs.scan.Goals as goal
+use Rattle.table.proofs.scan.Goals.{Else-links-i, At-entries, Else-not-link_fits}
 
 -- the turn at which a link is read
-abbrev turn : goal.Else-links-i → goal.At-entries
+abbrev turn : Else-links-i → At-entries
 turn c = c.before.before
 
 -- the table
-abbrev table : goal.At-entries → List ℕ
+abbrev table : At-entries → List ℕ
 table c = c.before.before.before.before.args.t.now
 
 -- that link fits
-fits : (c : goal.Else-not-link_fits) → let at = turn c.before.before in link_fits (table at) at.entries.i ≡ true
+fits : (c : Else-not-link_fits) → let at = turn c.before.before in link_fits (table at) at.entries.i ≡ true
 fits c = sym c.before.link_fits.ensures ∙ not-false c.before.link_fits.result c.if-not-link_fits.false-raw
 
 pub entries-init : goal.entries-init

@@ -2,8 +2,9 @@
 -- where the star was looked for
 use native.Mathlib.Omega.{arith}
 use Rattle.test_words.proofs.group.Goals as goal
+use Rattle.test_words.proofs.group.Goals.{After-past-from, After-scan-star}
 
-abbrev starred : goal.After-past-from → goal.After-scan-star
+abbrev starred : After-past-from → After-scan-star
 starred c = c.before.before.before
 
 pub slice_bounds-readable-end : goal.slice_bounds-readable-end

@@ -4,14 +4,15 @@ use Prim.Native.Nat.{◌*◌, ◌%◌, ◌≤◌}
 use native.Mathlib.Omega.{arith}
 use Rattle.test_words.proofs.Reading.{small}
 use Rattle.test_words.proofs.member.Goals as goal
+use Rattle.test_words.proofs.member.Goals.{After-word8-more, Start}
 
-abbrev start : goal.After-word8-more → goal.Start
+abbrev start : After-word8-more → Start
 start c =
     let first = c.before.before in
     first.before.before.before.before
 
 -- the product of the two bytes
-product : (c : goal.After-word8-more) → ((start c).args.c % 256) * c.word8-more.result ≤ 65025
+product : (c : After-word8-more) → ((start c).args.c % 256) * c.word8-more.result ≤ 65025
 product c = small (omega arith) (omega arith)
 
 pub overflow_mul-result : goal.overflow_mul-result

@@ -26,10 +26,10 @@ loop-q-preserved c =
 pub returns : goal.returns
 returns c = let inv = c.before.loop-q.invariant in heard_end c.loop-q-test.false inv.1.0 inv.1.1
 
-unfolding ROWS
-
 pub overflow_add-q : goal.overflow_add-q
+unfolding ROWS
 overflow_add-q c = omega arith
 
 pub loop-q-smaller : goal.loop-q-smaller
+unfolding ROWS
 loop-q-smaller c = omega arith

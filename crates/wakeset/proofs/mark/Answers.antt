@@ -25,5 +25,3 @@ returns-else-both c =
     let at = stored.before.before in
     λ long.
     adds_mark at.row-at.ensures.0 (let l = at.row-at.ensures.1 in omega arith) stored.either.ensures (rw (sym test.both.ensures ∙ c.if-both.false))
-
-unfolding ROWS

@@ -11,6 +11,7 @@ use Rattle.links.specs.Firsts.{Listed}
 use Rattle.wakeset.proofs.Resting.{own_link}
 use Rattle.wakeset.proofs.Adding.{adds_then, among_none, among_more, among_end}
 use Rattle.wakeset.proofs.pass.Goals as goal
+use Rattle.wakeset.proofs.pass.Goals.{In-loop-i, After-row-at, Start}
 
 -- no link is passed
 pub loop-i-init : goal.loop-i-init
@@ -52,19 +53,19 @@ returns c =
     }
 
 -- the row of p, from where a link is looked at; and the start, from there
-abbrev row_of : goal.In-loop-i → goal.After-row-at
+abbrev row_of : In-loop-i → After-row-at
 row_of c =
     let last = c.before.before in
     let begun = last.before.before in
     begun.before.before
 
-abbrev start_of : goal.In-loop-i → goal.Start
+abbrev start_of : In-loop-i → Start
 start_of c =
     let parent = (row_of c).before.before in
     parent.before.before.before
 
 -- each link that is looked at is p's own, where the index is right; the next turn looks at a later one, so each is looked at once
-pub own : (c : goal.In-loop-i) → let a = (start_of c).args in
+pub own : (c : In-loop-i) → let a = (start_of c).args in
     (words : List ℕ) → let w = (state_in a.bytes.now words).wiring in
     Listed w a.first.now → (c.before.loop-i.i < w.m) × (get_or w.consumer c.before.loop-i.i 0 ≡ a.p)
 unfolding ROWS
@@ -75,25 +76,30 @@ own c words h =
     let row = (row_of c).row-at.ensures.0 in
     own_link h _ (omega arith) head.loop-i.i (rw (begun.wide-i.ensures, row) at head.loop-i.invariant.0) (rw (last.wide-end.ensures, row) at c.loop-i-test.true)
 
-unfolding ROWS
-
 pub offset_bounds-first-at : goal.offset_bounds-first-at
+unfolding ROWS
 offset_bounds-first-at c = omega (arith, c.row-at.ensures.1)
 
 pub bounds-first-at : goal.bounds-first-at
+unfolding ROWS
 bounds-first-at c = omega (arith, c.row-at.ensures.1)
 
 pub overflow_add-at : goal.overflow_add-at
+unfolding ROWS
 overflow_add-at c = omega (arith, c.before.before.row-at.ensures.1)
 
 pub offset_bounds-first-at-2 : goal.offset_bounds-first-at-2
+unfolding ROWS
 offset_bounds-first-at-2 c = omega (arith, c.before.before.row-at.ensures.1)
 
 pub bounds-first-at-2 : goal.bounds-first-at-2
+unfolding ROWS
 bounds-first-at-2 c = omega (arith, c.before.before.row-at.ensures.1)
 
 pub overflow_add-i : goal.overflow_add-i
+unfolding ROWS
 overflow_add-i c = omega arith
 
 pub loop-i-smaller : goal.loop-i-smaller
+unfolding ROWS
 loop-i-smaller c = omega arith

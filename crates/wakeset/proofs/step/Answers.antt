@@ -2,7 +2,6 @@
 -- it is not marked
 use mathlib.Core.Path.{refl}
 use borrow.Author.Tests.{not-true, not-false}
-use Rattle.model.specs.Limits.{ROWS}
 use Rattle.model.proofs.Basics.{never}
 use Rattle.wakeset.proofs.step.Goals as goal
 
@@ -14,5 +13,3 @@ pub returns : goal.returns
 returns c =
     let marked = c.before.before in
     record { on = λ o. c.pass.ensures; off = λ dark. never (not-false _ (rw marked.before.before.row.ensures.0 at marked.if-not-marks-row.false-raw)) dark }
-
-unfolding ROWS

@@ -11,7 +11,7 @@ returns-then-status-ge-ACTIVE c = powered_marks (λ words. rw (c.before.status.e
 
 -- t sleeps
 pub mark-requires : goal.mark-requires
-mark-requires c κs = λ words. rw (c.before.before.status.ensures words) at c.before.if-status-ge-ACTIVE.false
+mark-requires c = λ words. rw (c.before.before.status.ensures words) at c.before.if-status-ge-ACTIVE.false
 
 pub returns : goal.returns
 unfolding ROWS

@@ -4,8 +4,9 @@ use mathlib.Core.Path.{sym}
 use lib.Seq.{length-take-le}
 use Rattle.write_program.proofs.Ending.{ended}
 use Rattle.write_program.proofs.finish.Goals as goal
+use Rattle.write_program.proofs.finish.Goals.{In-Written-2, Start}
 
-abbrev begun : goal.In-Written-2 → goal.Start
+abbrev begun : In-Written-2 → Start
 begun m = m.before.before.before.before
 
 pub slice_bounds-store-end : goal.slice_bounds-store-end
@@ -14,7 +15,7 @@ slice_bounds-store-end c =
     sym (length-take-le _ _ ((begun m).requires.room _ m.made-1.given.1))
 
 pub store-requires : goal.store-requires
-store-requires c κs =
+store-requires c =
     let m = c.before.before in
     (begun m).requires.table _ m.made-1.given.1
 

@@ -6,7 +6,7 @@ use Rattle.write_program.proofs.Ending.{list_ends}
 use Rattle.write_program.proofs.write.Goals as goal
 
 pub finish-requires : goal.finish-requires
-finish-requires c κs = made_for _ _ c.before.before.make-made.ensures
+finish-requires c = made_for _ _ c.before.before.make-made.ensures
 
 pub returns : goal.returns
 unfolding DEVICES LINKS

@@ -10,15 +10,16 @@ use borrow.Author.Tests.{lt-ltb, le-ltb, not-true, not-false}
 use Rattle.model.specs.Logic.{◌and◌}
 use Rattle.model.specs.Writing.{device_fits}
 use Rattle.writer_lists.proofs.device_fits.Goals as goal
+use Rattle.writer_lists.proofs.device_fits.Goals.{After-parent_good, Else-devices-wide8, Start}
 
-abbrev ruled : goal.After-parent_good → goal.Else-devices-wide8
+abbrev ruled : After-parent_good → Else-devices-wide8
 ruled g = g.before.before
 
-abbrev begun : goal.Else-devices-wide8 → goal.Start
+abbrev begun : Else-devices-wide8 → Start
 begun e = e.before.before.before
 
 -- the entry is whole
-whole : (e : goal.Else-devices-wide8) → ltb (2 * (begun e).args.p + 1) (length (begun e).args.devices.now) ≡ true
+whole : (e : Else-devices-wide8) → ltb (2 * (begun e).args.p + 1) (length (begun e).args.devices.now) ≡ true
 whole e = let w = e.before.wide8.ensures in lt-ltb (2 * (begun e).args.p + 1) (length (begun e).args.devices.now) (omega arith)
 
 -- the entry is not whole

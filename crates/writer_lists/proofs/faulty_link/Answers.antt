@@ -5,12 +5,13 @@ use native.Mathlib.Omega.{arith}
 use borrow.Author.Tests.{not-true, not-false}
 use Rattle.writer_lists.proofs.Searching.{pass_none, pass_one, stop_bad, stop_end, not_whole, a_repeat, no_repeat}
 use Rattle.writer_lists.proofs.faulty_link.Goals as goal
+use Rattle.writer_lists.proofs.faulty_link.Goals.{After-repeated, After-link_whole, In-loop-i}
 
 -- ---- places: a link that is whole, and the turn of the loop
-abbrev judged : goal.After-repeated → goal.After-link_whole
+abbrev judged : After-repeated → After-link_whole
 judged r = r.before.before
 
-abbrev turn : goal.After-link_whole → goal.In-loop-i
+abbrev turn : After-link_whole → In-loop-i
 turn w = w.before
 
 pub loop-i-init : goal.loop-i-init

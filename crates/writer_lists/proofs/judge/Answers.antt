@@ -7,14 +7,15 @@ use Rattle.model.specs.Limits.{DEVICES, LINKS}
 use Rattle.model.specs.Writing.{devices_given, links_given, counts_good}
 use Rattle.writer_lists.proofs.Answers.{none, many_devices, many_links, counts_fit, over, bad_device_lem, bad_link_lem, good}
 use Rattle.writer_lists.proofs.judge.Goals as goal
+use Rattle.writer_lists.proofs.judge.Goals.{Else-n-lt1, Start, Else-wide8-n, Else-m-gt-LINKS}
 
-abbrev at_first : goal.Else-n-lt1 → goal.Start
+abbrev at_first : Else-n-lt1 → Start
 at_first c = c.before.before.before
 
-abbrev at_second : goal.Else-wide8-n → goal.Start
+abbrev at_second : Else-wide8-n → Start
 at_second c = at_first c.before.before
 
-abbrev at-third : goal.Else-m-gt-LINKS → goal.Start
+abbrev at-third : Else-m-gt-LINKS → Start
 at-third c = at_second c.before
 
 -- ---- 4: no device, too many devices, too many links
@@ -38,7 +39,7 @@ returns-then-m-gt-LINKS c =
     (many_links (devices_given a.devices.now) (links_given a.links.now) (omega arith) (omega arith) (omega arith))
 
 -- past the limits
-counts : (c : goal.Else-m-gt-LINKS) → counts_good (devices_given (at-third c).args.devices.now) (links_given (at-third c).args.links.now) ≡ true
+counts : (c : Else-m-gt-LINKS) → counts_good (devices_given (at-third c).args.devices.now) (links_given (at-third c).args.links.now) ≡ true
 unfolding devices_given links_given DEVICES LINKS
 counts c =
     let a = (at-third c).args in

@@ -10,15 +10,16 @@ use borrow.Author.Tests.{lt-ltb, le-ltb, not-true, not-false}
 use Rattle.model.specs.Logic.{◌and◌}
 use Rattle.model.specs.Writing.{link_whole}
 use Rattle.writer_lists.proofs.link_whole.Goals as goal
+use Rattle.writer_lists.proofs.link_whole.Goals.{After-ends_good, Else-links-wide, Start}
 
-abbrev ruled : goal.After-ends_good → goal.Else-links-wide
+abbrev ruled : After-ends_good → Else-links-wide
 ruled g = g.before.before.before
 
-abbrev begun : goal.Else-links-wide → goal.Start
+abbrev begun : Else-links-wide → Start
 begun e = e.before.before.before
 
 -- the entry is whole
-whole : (e : goal.Else-links-wide) → ltb (3 * (begun e).args.i + 2) (length (begun e).args.links.now) ≡ true
+whole : (e : Else-links-wide) → ltb (3 * (begun e).args.i + 2) (length (begun e).args.links.now) ≡ true
 whole e = let w = e.before.wide.ensures in lt-ltb (3 * (begun e).args.i + 2) (length (begun e).args.links.now) (omega arith)
 
 -- the entry is not whole

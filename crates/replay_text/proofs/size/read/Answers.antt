@@ -8,16 +8,17 @@ use lib.ListN.{drop}
 use Rattle.replay_text.specs.Sizes.{size_after, size_of}
 use Rattle.replay_text.proofs.Reading.{turn_on, turn_stop, left_none, size_large, size_none, size_end}
 use Rattle.replay_text.proofs.size.read.Goals as goal
+use Rattle.replay_text.proofs.size.read.Goals.{Else-d-gt9, At-loop-i}
 
 -- the turn at which a digit was read, and the text
-abbrev head_of : goal.Else-d-gt9 → goal.At-loop-i
+abbrev head_of : Else-d-gt9 → At-loop-i
 head_of c = c.before.before.before.before
 
-abbrev text_of : goal.Else-d-gt9 → List ℕ
+abbrev text_of : Else-d-gt9 → List ℕ
 text_of c = (head_of c).before.before.args.text.now
 
 -- the digit is taken into the value
-taken : (c : goal.Else-d-gt9) →
+taken : (c : Else-d-gt9) →
     let at = (head_of c).loop-i in
     size_after (10 * at.value + c.before.digit-d.result) (drop (at.i + 1) (text_of c)) ≡ size_of (text_of c)
 taken c =
