@@ -19,7 +19,4 @@ many_words c = let g = c.well_formed.0 in search rules
 -- the one exit
 pub returns : goal.returns
 returns c =
-    let fed = c.before.before in
-    let copied = fed.before.before.before.before in
-    let start = copied.before.before.before.before in
-    sym (fed.feed-answer.ensures.is (many_bytes start) (many_words start))
+    sym (c.feed-answer.ensures.is (many_bytes (goal.at.returns c).Start (many_words (goal.at.returns c).Start)

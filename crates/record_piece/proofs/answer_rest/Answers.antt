@@ -26,13 +26,10 @@ shape_of-replies c = search rules
 
 pub returns : goal.returns
 returns c =
-    let ran = c.before.before in
-    let known = ran.before.before.before.before in
-    let start = known.before.before.before in
-    let piece = start.args.piece.now in
-    let out = start.args.replies-1.now in
+    let piece = c.args.piece.now in
+    let out = c.args.replies-1.now in
     record {
-      part = ran.answer_records.new.1.1.1.1.0;
-      is = λ z. rw (part_lent start.args.from piece, part_lent 4 out) at ((ran.answer_records.ensures.is (rest_fits start)).is z);
-      back = part_back 4 out _ start.requires.one;
+      part = c.answer_records.new.1.1.1.1.0;
+      is = λ z. rw (part_lent c.args.from piece, part_lent 4 out) at ((c.answer_records.ensures.is (rest_fits (goal.at.returns c).Start).is z);
+      back = part_back 4 out _ c.requires.one;
     }

@@ -27,12 +27,5 @@ returns-then-out-lt-FORM c = no_room c.if-out-lt-FORM.true
 pub returns : goal.returns
 unfolding FORM BYTES WORDS ROWS LINKS header
 returns c =
-    let third = c.before.before in
-    let words-lent = third.before.before in
-    let second = words-lent.before.before.before in
-    let bytes-lent = second.before.before in
-    let first = bytes-lent.before.before.before in
-    let tested = first.before.before.before in
-    let start = tested.before.before in
-    written tested.if-out-lt-FORM.false
-    (formed _ _ _ (many_bytes start) (many_words start) first.put_bytes.ensures second.put_bytes-2.ensures third.put_words.ensures)
+    written c.if-out-lt-FORM.false
+    (formed _ _ _ (many_bytes (goal.at.returns c).Start (many_words (goal.at.returns c).Start c.put_bytes.ensures c.put_bytes-2.ensures c.put_words.ensures)

@@ -4,33 +4,27 @@ use mathlib.Core.Path.{sym}
 use lib.Seq.{length-take-le}
 use Rattle.write_program.proofs.Ending.{ended}
 use Rattle.write_program.proofs.finish.Goals as goal
-use Rattle.write_program.proofs.finish.Goals.{In-Written-2, Start}
-
-abbrev begun : In-Written-2 → Start
-begun m = m.before.before.before.before
 
 pub slice_bounds-store-end : goal.slice_bounds-store-end
 slice_bounds-store-end c =
-    let m = c.before.before in
-    sym (length-take-le _ _ ((begun m).requires.room _ m.made-1.given.1))
+    sym (length-take-le _ _ (c.requires.room _ c.made-1.given.1))
 
 pub store-requires : goal.store-requires
 store-requires c =
-    let m = c.before.before in
-    (begun m).requires.table _ m.made-1.given.1
+    c.requires.table _ c.made-1.given.1
 
 -- the table
 pub returns-in-Written : goal.returns-in-Written
-returns-in-Written c = ended _ c.before.before.before.made-1.given.1 c.store.ensures
+returns-in-Written c = ended _ c.made-1.given.1 c.store.ensures
 
 -- a number over 255
 pub returns-in-Large : goal.returns-in-Large
-returns-in-Large c = ended _ c.before.before.before.made-in-Large-1.given.1 c.tell.ensures
+returns-in-Large c = ended _ c.made-in-Large-1.given.1 c.tell.ensures
 
 -- a line of another sort
 pub returns-in-Wrong : goal.returns-in-Wrong
-returns-in-Wrong c = ended _ c.before.before.before.made-in-Wrong-1.given.1 c.tell-in-Wrong.ensures
+returns-in-Wrong c = ended _ c.made-in-Wrong-1.given.1 c.tell-in-Wrong.ensures
 
 -- a refusal
 pub returns-in-Refused : goal.returns-in-Refused
-returns-in-Refused c = ended _ c.before.before.before.made-in-Refused-1.given.1 c.tell-in-Refused.ensures
+returns-in-Refused c = ended _ c.made-in-Refused-1.given.1 c.tell-in-Refused.ensures
