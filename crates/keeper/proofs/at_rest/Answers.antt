@@ -1,5 +1,4 @@
 -- `keeper::at_rest` meets its contract: the counts and the entries are stored into the memory of the empty bench. Assumes nothing.
--- the arrays of a bench have their lengths
 use mathlib.Core.Path.{◌≡◌}
 use lib.ListN.{length}
 use native.Mathlib.Omega.{arith}
@@ -10,13 +9,14 @@ use borrow.Author.Rules.{rules}
 use Rattle.keeper.proofs.at_rest.Goals as goal
 use Rattle.keeper.proofs.at_rest.Goals.{After-empty-fresh}
 
-many_bytes : (c : After-empty-fresh) → length c.empty-fresh.result.bytes-1 ≡ BYTES
+-- the arrays of a bench have their lengths
+many_bytes : (c : After-empty-fresh) → length c.empty-fresh.result.bytes ≡ BYTES
 unfolding BYTES ROWS LINKS
-many_bytes c = let g = c.empty-fresh.type-inv in search rules
+many_bytes c = let g = c.empty.type-inv in search rules
 
-many_words : (c : After-empty-fresh) → length c.empty-fresh.result.words-1 ≡ WORDS
+many_words : (c : After-empty-fresh) → length c.empty-fresh.result.words ≡ WORDS
 unfolding WORDS ROWS
-many_words c = let g = c.empty-fresh.type-inv in search rules
+many_words c = let g = c.empty.type-inv in search rules
 
 -- the one exit
 pub returns : goal.returns

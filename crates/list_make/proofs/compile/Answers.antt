@@ -1,6 +1,5 @@
 -- `list_make::compile` meets its contract: lists that are too long for the buffers are too long for a table; others are gathered whole, and
 -- the writer's answer is told. Assumes nothing.
--- ---- places: what is gathered, and the start of the call
 use mathlib.Core.Path.{◌≡◌, sym, ◌∙◌, ap}
 use native.Mathlib.Omega.{arith}
 use lib.ListN.{length, take}
@@ -17,7 +16,7 @@ returns-then-n-gt-DEVICE_BYTES c =
     let a = c.args in
     let n = c.gather-n.ensures.bytes in
     let many = c.if-n-gt-DEVICE_BYTES.true in
-    makes a.text.now a.table-1.now 0 (long_devices (listed_devices a.text.now) (listed_links a.text.now) a.table-1.now (omega arith)) c.told.ensures (λ z. absurd (omega arith))
+    makes a.text.now a.table.now 0 (long_devices (listed_devices a.text.now) (listed_links a.text.now) a.table.now (omega arith)) c.told.ensures (λ z. absurd (omega arith))
 
 -- too many links
 pub returns-then-m-gt-LINK_BYTES : goal.returns-then-m-gt-LINK_BYTES
@@ -26,25 +25,25 @@ returns-then-m-gt-LINK_BYTES c =
     let a = c.args in
     let m = c.gather-m.ensures.bytes in
     let many = c.if-m-gt-LINK_BYTES.true in
-    makes a.text.now a.table-1.now 0 (long_links (listed_devices a.text.now) (listed_links a.text.now) a.table-1.now (omega arith)) c.told-then-m-gt-LINK_BYTES.ensures (λ z. absurd (omega arith))
+    makes a.text.now a.table.now 0 (long_links (listed_devices a.text.now) (listed_links a.text.now) a.table.now (omega arith)) c.told-then-m-gt-LINK_BYTES.ensures (λ z. absurd (omega arith))
 
 -- where there are not, what was gathered is whole
-devices : (c : Else-m-gt-LINK_BYTES) → take c.gather-n.result c.gather-n.last.1.1.0 ≡ listed_devices c.args.text.now
+devices : (c : Else-m-gt-LINK_BYTES) → take c.gather-n.result c.gather.last.1.1.0 ≡ listed_devices c.args.text.now
 devices c =
-    let g = c.gather-n in
+    let g = c.gather in
     all_there _ _ g.ensures.bytes g.ensures.buffer (let l = c.if-n-gt-DEVICE_BYTES.false in omega arith)
 
 links : (c : Else-m-gt-LINK_BYTES) → take c.gather-m.result c.gather-m.new.1.1.0 ≡ listed_links c.args.text.now
 links c =
-    let g = c.gather-m in
+    let g = c.gather2 in
     all_there _ _ g.ensures.bytes g.ensures.buffer (let l = c.if-m-gt-LINK_BYTES.false in omega arith)
 
 pub slice_bounds-write-end : goal.slice_bounds-write-end
-slice_bounds-write-end c = c.gather-n.ensures.bytes ∙ ap length (sym (devices (goal.at.slice_bounds-write-end c).Else-m-gt-LINK_BYTES)
+slice_bounds-write-end c = c.gather-n.ensures.bytes ∙ ap length (sym (devices (goal.at.slice_bounds-write-end c).Else-m-gt-LINK_BYTES))
 
 pub slice_bounds-write-end-2 : goal.slice_bounds-write-end-2
 slice_bounds-write-end-2 c =
-    c.gather-m.ensures.bytes ∙ ap length (sym (links (goal.at.slice_bounds-write-end-2 c).Else-m-gt-LINK_BYTES)
+    c.gather-m.ensures.bytes ∙ ap length (sym (links (goal.at.slice_bounds-write-end-2 c).Else-m-gt-LINK_BYTES))
 
 -- the writer's answer
 pub returns : goal.returns
@@ -52,4 +51,4 @@ returns c =
     let a = c.args in
     let n = c.gather-n.ensures.bytes in
     let m = c.gather-m.ensures.bytes in
-    makes a.text.now a.table-1.now _ (given_same a.table-1.now c.write-outcome.ensures (devices (goal.at.returns c).Else-m-gt-LINK_BYTES (links (goal.at.returns c).Else-m-gt-LINK_BYTES) c.told-2.ensures (λ z. omega arith)
+    makes a.text.now a.table.now _ (given_same a.table.now c.write-outcome.ensures (devices (goal.at.returns c).Else-m-gt-LINK_BYTES) (links (goal.at.returns c).Else-m-gt-LINK_BYTES)) c.told-2.ensures (λ z. omega arith)

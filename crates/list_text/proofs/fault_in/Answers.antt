@@ -8,16 +8,16 @@ use Rattle.list_text.proofs.fault_in.Goals as goal
 -- a number over 255
 pub returns-in-Large : goal.returns-in-Large
 returns-in-Large c =
-    faulting_large c.loop-start.invariant c.line_at_lem.ensures c.enum_told-1.given.1
+    faulting_large c.loop-start.invariant c.line_at_lem.ensures c.in-Large.is
 
 -- another sort of line
 pub returns-in-Wrong : goal.returns-in-Wrong
 returns-in-Wrong c =
-    faulting_wrong c.loop-start.invariant c.line_at_lem.ensures c.enum_told-in-Wrong-1.given.1
+    faulting_wrong c.loop-start.invariant c.line_at_lem.ensures c.in-Wrong.is
 
 -- a line of a list
 pub loop-start-preserved : goal.loop-start-preserved
-loop-start-preserved c = faulting_more c.loop-start.invariant c.line_at_lem.ensures c.in-Large.keys3
+loop-start-preserved c = faulting_more c.loop-start.invariant c.line_at_lem.ensures c.in_default.is
 
 -- the end of the text
 pub returns : goal.returns

@@ -1,5 +1,4 @@
 -- The two comparisons of the code are the two of the definition: a signed number is read back from its bits as it was. Assumes nothing.
--- the start, from where the two bounds of the kind are read
 use lib.ListN.{get_or}
 use mir.Syntax.{w16}
 use mir.Val.{SFits}
@@ -25,12 +24,12 @@ pub returns-then-v-least : goal.returns-then-v-least
 returns-then-v-least c =
     let s = c.signed-v.ensures in
     let h = c.ranges.value.fits in
-    allowed_no _ _ (rw (s, signed_through _ h, through _ (fits_least (goal.at.returns-then-v-least c).After-struct_told-2-1) at c.if-v-least.true)
+    allowed_no _ _ (rw (s, signed_through _ h, through _ (fits_least (goal.at.returns-then-v-least c).After-struct_told-2-1)) at c.if-v-least.true)
 
 -- at least the least
 pub returns : goal.returns
 returns c =
     let s = c.signed-v.ensures in
     let h = c.ranges.value.fits in
-    rw (s, signed_through _ h, through _ (fits_greatest (goal.at.returns c).After-struct_told-2-1)
-    (allowed_if _ _ (rw (s, signed_through _ h, through _ (fits_least (goal.at.returns c).After-struct_told-2-1) at c.if-v-least.false))
+    rw (s, signed_through _ h, through _ (fits_greatest (goal.at.returns c).After-struct_told-2-1))
+    (allowed_if _ _ (rw (s, signed_through _ h, through _ (fits_least (goal.at.returns c).After-struct_told-2-1)) at c.if-v-least.false))

@@ -1,5 +1,4 @@
 -- `record_kinds::signed` meets its contract: bits from 32,768 on stand for -1 less what is missing to 65,535. Assumes nothing.
--- what is missing to 65,535 is small
 use mathlib.Core.Path.{◌∙◌}
 use Prim.Native.Nat.{◌-◌, ◌<◌}
 use native.Mathlib.Omega.{arith}
@@ -7,6 +6,7 @@ use Rattle.record_kinds.proofs.Signs.{low, signed_low, less, signed_high, fits, 
 use Rattle.record_kinds.proofs.signed.Goals as goal
 use Rattle.record_kinds.proofs.signed.Goals.{Else-value-lt32768}
 
+-- what is missing to 65,535 is small
 small : (c : Else-value-lt32768) → 65535 - c.args.value < 32768
 small c = let z = c.if-value-lt32768.false in omega arith
 

@@ -1,11 +1,11 @@
 -- Each test is a part of the room that is asked for; past all of them the records are answered and the rest is read off. Assumes nothing.
--- more than three bytes are carried
 use mathlib.Core.Path.{refl}
 use native.Mathlib.Omega.{arith}
 use Rattle.record_loop.specs.Runs.{Room}
 use Rattle.record_piece.proofs.answer_piece.Goals as goal
 use Rattle.record_piece.proofs.answer_piece.Goals.{Else-replies-whole}
 
+-- more than three bytes are carried
 pub returns-then-used-gt3 : goal.returns-then-used-gt3
 returns-then-used-gt3 c =
     let l = c.if-used-gt3.true in
@@ -24,7 +24,7 @@ returns-then-replies-whole c =
     record { is = λ r. let room = r.room in absurd (omega arith); left = λ r. let room = r.room in absurd (omega arith); untouched = λ n. (refl, refl, refl) }
 
 -- the tests passed
-fits : (c : Else-replies-whole) → Room c.args.carried.used c.args.piece.now c.args.replies-1.now
+fits : (c : Else-replies-whole) → Room c.args.carried.used c.args.piece.now c.args.replies.now
 fits c =
     record { few = c.if-used-gt3.false; c = c.if-piece-gt-PIECE.false; room = c.if-replies-whole.false }
 
@@ -41,4 +41,4 @@ rest-requires c =
 -- the records are answered
 pub returns : goal.returns
 returns c =
-    record { is = λ r. c.answer_all.ensures; left = λ r. c.rest.ensures; untouched = λ n. absurd (n (fits (goal.at.returns c).Else-replies-whole) }
+    record { is = λ r. c.answer_all.ensures; left = λ r. c.rest.ensures; untouched = λ n. absurd (n (fits (goal.at.returns c).Else-replies-whole)) }

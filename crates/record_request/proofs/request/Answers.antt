@@ -1,5 +1,4 @@
 -- One exit for the path of kinds 6, 7 and 8 and one for each other kind: its promise is the model's line of the kind. Assumes nothing.
--- the state at the start, from past the path
 use mathlib.Core.Path.{sym, ◌∙◌}
 use Rattle.model.specs.Logic.{if◌then◌else◌}
 use Rattle.model.specs.State.{State}
@@ -19,48 +18,48 @@ pub returns-in-1 : goal.returns-in-1
 unfolding request if◌then◌else◌
 returns-in-1 c =
     let done = c.enable.ensures in
-    record { is = λ g h l. rw (c.in-1.keys1, c.finished.ensures) (done _); stays = λ f. enable_stays ((let a = c.args in state_in a.bytes.now a.words.now)) _ _ _ (done _) }
+    record { is = λ g h l. rw (c.in-1.is, c.finished.ensures) (done _); stays = λ f. enable_stays ((let a = c.args in state_in a.bytes.now a.words.now)) _ _ _ (done _) }
 
 -- disable
 pub returns-in-2 : goal.returns-in-2
 unfolding request if◌then◌else◌
 returns-in-2 c =
     let done = c.disable.ensures in
-    record { is = λ g h l. rw (c.in-1.keys2, c.finished-in-2.ensures) (done _); stays = λ f. disable_stays ((let a = c.args in state_in a.bytes.now a.words.now)) _ _ _ (done _) }
+    record { is = λ g h l. rw (c.in-2.is, c.finished-in-2.ensures) (done _); stays = λ f. disable_stays ((let a = c.args in state_in a.bytes.now a.words.now)) _ _ _ (done _) }
 
 -- get
 pub returns-in-3 : goal.returns-in-3
 unfolding request if◌then◌else◌
 returns-in-3 c =
     let done = c.get.ensures in
-    record { is = λ g h l. rw (c.in-1.keys3, c.finished-in-3.ensures) (done _); stays = λ f. get_stays ((let a = c.args in state_in a.bytes.now a.words.now)) _ _ _ (done _) }
+    record { is = λ g h l. rw (c.in-3.is, c.finished-in-3.ensures) (done _); stays = λ f. get_stays ((let a = c.args in state_in a.bytes.now a.words.now)) _ _ _ (done _) }
 
 -- get and wake
 pub returns-in-4 : goal.returns-in-4
 unfolding request if◌then◌else◌
-returns-in-4 c = record { is = λ g h l. rw c.in-1.keys4 (c.get_wake.ensures.is h l); stays = c.get_wake.ensures.stays }
+returns-in-4 c = record { is = λ g h l. rw c.in-4.is (c.get_wake.ensures.is h l); stays = c.get_wake.ensures.stays }
 
 -- put
 pub returns-in-5 : goal.returns-in-5
 unfolding request if◌then◌else◌
 returns-in-5 c =
     let done = c.put.ensures in
-    record { is = λ g h l. rw (c.in-1.keys5, c.finished-in-5.ensures) (done _); stays = λ f. put_stays ((let a = c.args in state_in a.bytes.now a.words.now)) _ _ _ (done _) }
+    record { is = λ g h l. rw (c.in-5.is, c.finished-in-5.ensures) (done _); stays = λ f. put_stays ((let a = c.args in state_in a.bytes.now a.words.now)) _ _ _ (done _) }
 
 -- wake
 pub returns-in-9 : goal.returns-in-9
 unfolding request if◌then◌else◌
-returns-in-9 c = record { is = λ g h l. rw c.in-1.keys6 (c.wake.ensures.is h l); stays = c.wake.ensures.stays }
+returns-in-9 c = record { is = λ g h l. rw c.in-9.is (c.wake.ensures.is h l); stays = c.wake.ensures.stays }
 
 -- set active
 pub returns-in-10 : goal.returns-in-10
 unfolding request if◌then◌else◌
-returns-in-10 c = record { is = λ g h l. rw c.in-1.keys7 (c.set_active.ensures.is h l); stays = c.set_active.ensures.stays }
+returns-in-10 c = record { is = λ g h l. rw c.in-10.is (c.set_active.ensures.is h l); stays = c.set_active.ensures.stays }
 
 -- set suspended
 pub returns-in-11 : goal.returns-in-11
 unfolding request if◌then◌else◌
-returns-in-11 c = record { is = λ g h l. rw c.in-1.keys8 (c.set_suspended.ensures.is h l); stays = c.set_suspended.ensures.stays }
+returns-in-11 c = record { is = λ g h l. rw c.in-11.is (c.set_suspended.ensures.is h l); stays = c.set_suspended.ensures.stays }
 
 -- ignore children: none of the other kinds
 pub returns-in_default : goal.returns-in_default

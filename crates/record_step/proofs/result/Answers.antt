@@ -1,5 +1,4 @@
 -- The callback read from the memory is taken apart; each kind goes on as its own result. Assumes nothing.
--- the state at the start
 use mathlib.Core.Path.{refl, sym, ◌∙◌}
 use Rattle.model.specs.State.{State}
 use Rattle.memory.specs.Layout.{state_in}
@@ -10,7 +9,7 @@ use Rattle.record_step.proofs.result.Goals as goal
 pub returns-in_default : goal.returns-in_default
 returns-in_default c =
     record {
-      is = λ h l. rw c.refused.ensures (result_none _ _ _ (sym c.enum_told-1.given.1 ∙ c.open_callback-waiting.ensures _));
+      is = λ h l. rw c.refused.ensures (result_none _ _ _ (sym c.in_default.is ∙ c.open_callback-waiting.ensures _));
       stays = λ f. refl;
     }
 
@@ -21,7 +20,7 @@ returns-then-p-asked c =
       is =
           λ h l.
           rw c.refused-then-p-asked.ensures
-          (result_other _ _ _ _ _ _ (sym c.waiting-1.given.1 ∙ c.open_callback-waiting.ensures _) c.if-p-asked.true);
+          (result_other _ _ _ _ _ _ (sym c.in-Open.is ∙ c.open_callback-waiting.ensures _) c.if-p-asked.true);
       stays = λ f. refl;
     }
 
@@ -31,7 +30,7 @@ returns-in-Suspend c =
     record {
       is =
           λ h l.
-          result_suspend _ _ _ _ _ (sym (rw c.enum_told-in-Suspend-1.given.1 at c.waiting-1.given.1) ∙ c.open_callback-waiting.ensures _) c.if-p-asked.false
+          result_suspend _ _ _ _ _ (sym (rw c.in-Suspend.is at c.in-Open.is) ∙ c.open_callback-waiting.ensures _) c.if-p-asked.false
           ∙ c.suspend_result.ensures.is h (rw c.if-p-asked.false at l);
       stays = c.suspend_result.ensures.stays;
     }
@@ -42,7 +41,7 @@ returns-in-Resume c =
     record {
       is =
           λ h l.
-          let e = sym (rw c.enum_told-in-Resume-1.given.1 at c.waiting-1.given.1) ∙ c.open_callback-waiting.ensures _ in
+          let e = sym (rw c.in-Resume.is at c.in-Open.is) ∙ c.open_callback-waiting.ensures _ in
           result_resume _ _ _ _ _ e c.if-p-asked.false
           ∙ c.resume_result.ensures.is (rw (target_is ((state_in c.args.bytes.now c.args.words.now)) 0 0 _ _ _ e) h.ready.target) h (rw c.if-p-asked.false at l);
       stays = c.resume_result.ensures.stays;
@@ -54,7 +53,7 @@ returns-in-Idle c =
     record {
       is =
           λ h l.
-          result_idle _ _ _ _ _ (sym (rw c.enum_told-in-Idle-1.given.1 at c.waiting-1.given.1) ∙ c.open_callback-waiting.ensures _) c.if-p-asked.false
+          result_idle _ _ _ _ _ (sym (rw c.in-Idle.is at c.in-Open.is) ∙ c.open_callback-waiting.ensures _) c.if-p-asked.false
           ∙ c.idle_result.ensures.is h (rw c.if-p-asked.false at l);
       stays = c.idle_result.ensures.stays;
     }

@@ -1,5 +1,4 @@
 -- Each exit is a law of the model's record: refused, a result, busy, or a request. Assumes nothing.
--- the state at the start
 use mathlib.Core.Path.{refl, sym, ◌∙◌}
 use Rattle.model.specs.State.{State}
 use Rattle.memory.specs.Layout.{state_in}

@@ -1,6 +1,5 @@
 -- Kind 6's put was -75 or left the device in use, and ends the request; else the code chosen is 0 only where every test of the kind
 -- passed, and otherwise it is that of the first that did not. Assumes nothing.
--- no put, or one that was done, from where the code is chosen; before it stands the put
 use mathlib.Core.Path.{◌≡◌, refl, sym, ◌∙◌}
 use mathlib.Core.List.{List}
 use Prim.Native.Nat.{ℕ}
@@ -22,7 +21,7 @@ coded c =
     code_of _ _ _ c.suspend_test.ensures waking sleeping c.choose-own.ensures c.first_code-code.ensures
 
 -- whether the request ends there
-ends_by : (c : After-either) → let put = c.put_first-put in let a = c.args in
+ends_by : (c : After-either) → let put = c.put_first in let a = c.args in
     ends a.kind (state_in a.bytes.now put.last.0) a.p put.result ≡ c.either.result
 ends_by c = sym (rw (c.still_used.ensures c.args.bytes.now) at c.either.ensures)
 
@@ -34,7 +33,7 @@ returns-then-either c = slept_stop c.put_first-put.ensures _ c.finished.ensures 
 pub returns-then-code-gt0 : goal.returns-then-code-gt0
 returns-then-code-gt0 c =
     let code = coded (goal.at.returns-then-code-gt0 c).After-first_code-code in
-    slept_go c.put_first-put.ensures (ends_by (goal.at.returns-then-code-gt0 c).After-either ∙ c.if-either.left) (record {
+    slept_go c.put_first-put.ensures (ends_by (goal.at.returns-then-code-gt0 c).After-either ∙ c.if-either.false) (record {
       idling = λ e. record { is = λ h. rw c.finished-then-code-gt0.ensures (idle_stops _ _ code e c.if-code-gt0.true) };
       suspending = λ e. record { is = λ h l. rw c.finished-then-code-gt0.ensures (suspend_stops _ _ code e c.if-code-gt0.true); stays = λ f. refl };
     })
@@ -42,13 +41,13 @@ returns-then-code-gt0 c =
 -- its idle callback is asked for
 pub returns-then-kind-lt8 : goal.returns-then-kind-lt8
 returns-then-kind-lt8 c =
-    slept_go c.put_first-put.ensures (ends_by (goal.at.returns-then-kind-lt8 c).After-either ∙ c.if-either.left) (record {
+    slept_go c.put_first-put.ensures (ends_by (goal.at.returns-then-kind-lt8 c).After-either ∙ c.if-either.false) (record {
       idling =
           λ e.
           record {
             is =
                 λ h.
-                rw (c.set_callback.ensures _ (full_long _ _ h), c.ask.ensures) (idle_asks _ _ (coded (goal.at.returns-then-kind-lt8 c).After-first_code-code e c.if-code-gt0.false);
+                rw (c.set_callback.ensures _ (full_long _ _ h), c.ask.ensures) (idle_asks _ _ (coded (goal.at.returns-then-kind-lt8 c).After-first_code-code) e c.if-code-gt0.false);
           };
       suspending = λ e. never (lt-ltb _ _ c.if-kind-lt8.true) e;
     })
@@ -56,12 +55,12 @@ returns-then-kind-lt8 c =
 -- it is asked to suspend
 pub returns : goal.returns
 returns c =
-    slept_go c.put_first-put.ensures (ends_by (goal.at.returns c).After-either ∙ c.if-either.left) (record {
+    slept_go c.put_first-put.ensures (ends_by (goal.at.returns c).After-either ∙ c.if-either.false) (record {
       idling = λ e. never e (le-ltb _ _ c.if-kind-lt8.false);
       suspending =
           λ e.
           record {
-            is = λ h l. suspend_asks _ _ (coded (goal.at.returns c).After-first_code-code e c.if-code-gt0.false ∙ c.ask_suspend.ensures.is h l;
+            is = λ h l. suspend_asks _ _ (coded (goal.at.returns c).After-first_code-code) e c.if-code-gt0.false ∙ c.ask_suspend.ensures.is h l;
             stays = c.ask_suspend.ensures.stays;
           };
     })

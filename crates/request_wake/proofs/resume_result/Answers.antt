@@ -1,6 +1,5 @@
 -- `request_wake::resume_result` meets its contract: the status is set and the callback closed; then the wake goes on from that state, or
 -- its failure is kept and told. Assumes nothing.
--- the state at the start
 use borrow.Author.Tests.{eq-eqb, ne_eqb}
 use mathlib.Core.Path.{◌∙◌, ap}
 use Rattle.model.specs.State.{State}

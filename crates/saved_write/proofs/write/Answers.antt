@@ -1,5 +1,4 @@
 -- `saved_write::write` meets its contract: header, bytes and words, one after another. Assumes nothing.
--- both arrays have all their cells
 use mathlib.Core.Path.{◌≡◌}
 use lib.ListN.{length}
 use Rattle.model.specs.Limits.{ROWS, LINKS}
@@ -10,6 +9,7 @@ use borrow.Author.Rules.{rules}
 use Rattle.saved_write.proofs.write.Goals as goal
 use Rattle.saved_write.proofs.write.Goals.{Start}
 
+-- both arrays have all their cells
 many_bytes : (c : Start) → length c.args.t1 ≡ BYTES
 unfolding BYTES ROWS LINKS
 many_bytes c = let g = c.well_formed.0 in search rules
@@ -28,4 +28,4 @@ pub returns : goal.returns
 unfolding FORM BYTES WORDS ROWS LINKS header
 returns c =
     written c.if-out-lt-FORM.false
-    (formed _ _ _ (many_bytes (goal.at.returns c).Start (many_words (goal.at.returns c).Start c.put_bytes.ensures c.put_bytes-2.ensures c.put_words.ensures)
+    (formed _ _ _ (many_bytes (goal.at.returns c).Start) (many_words (goal.at.returns c).Start) c.put_bytes.ensures c.put_bytes-2.ensures c.put_words.ensures)

@@ -1,5 +1,4 @@
 -- Each exit is a test of the chain that fails; the last has the lowest member resuming, so the target is a member. Assumes nothing.
--- the state at the start
 use mathlib.Core.Path.{sym, ◌∙◌, ap}
 use borrow.Author.Tests.{eq-eqb, ne_eqb, lt-ltb, le-ltb}
 use Rattle.model.specs.State.{State}

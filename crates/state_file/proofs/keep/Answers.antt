@@ -1,6 +1,5 @@
 -- `state_file::keep` meets its contract: a saving into a buffer of the form's length is the form, or is refused since the bench is not sound.
 -- Assumes nothing.
--- ---- places: the answer, the saving, and the start of the call
 use mathlib.Core.Path.{◌≡◌, refl, sym, ◌∙◌}
 use mathlib.Core.List.{List}
 use Prim.Native.Nat.{ℕ}
@@ -15,7 +14,7 @@ use Rattle.state_file.proofs.keep.Goals as goal
 use Rattle.state_file.proofs.keep.Goals.{Start}
 
 -- the arrays of a bench have their lengths by its type
-many_bytes : (c : Start) → length c.args.bench.bytes-1 ≡ BYTES
+many_bytes : (c : Start) → length c.args.bench.bytes ≡ BYTES
 unfolding BYTES ROWS LINKS
 many_bytes c = let g = c.well_formed.1.0 in search rules
 
@@ -43,7 +42,7 @@ returns-then-number-ne0 c =
     let bench = c.args.bench in
     let number = c.save_number-number.ensures in
     record {
-      unasked = λ e. absurd (c.if-task-eq0.left e);
+      unasked = λ e. absurd (c.if-task-eq0.false e);
       sound = λ n t. absurd (c.if-number-ne0.true (number ∙ sound_saved bench buffer room c.save-saving.result c.save-saving.ensures t));
       unsound = λ n t. refl;
     }
@@ -52,7 +51,7 @@ pub named-requires : goal.named-requires
 unfolding FORM BYTES WORDS ROWS LINKS
 named-requires c =
     let z = sym c.save_number-number.ensures ∙ c.if-number-ne0.false in
-    form_saved c.args.bench buffer room c.save-saving.result c.save-saving.ensures (many_bytes (goal.at.named-requires c).Start (many_words (goal.at.named-requires c).Start z
+    form_saved c.args.bench buffer room c.save-saving.result c.save-saving.ensures (many_bytes (goal.at.named-requires c).Start) (many_words (goal.at.named-requires c).Start) z
 
 -- the bench is saved, or a file fails
 pub returns : goal.returns
@@ -61,7 +60,7 @@ returns c =
     let bench = c.args.bench in
     let z = sym c.save_number-number.ensures ∙ c.if-number-ne0.false in
     record {
-      unasked = λ e. absurd (c.if-task-eq0.left e);
+      unasked = λ e. absurd (c.if-task-eq0.false e);
       sound = λ n t. c.named.ensures;
       unsound = λ n t. let x = unsound_refused bench buffer room c.save-saving.result c.save-saving.ensures t in absurd (omega arith);
     }

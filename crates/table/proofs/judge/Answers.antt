@@ -1,5 +1,4 @@
 -- `table::judge` meets its contract: the tests run in the order of `table_answer`, and each exit is its branch. Assumes nothing.
--- the table
 use mathlib.Core.Path.{◌≡◌, sym, ◌∙◌}
 use mathlib.Core.Bool.{true, false}
 use mathlib.Core.List.{List}
@@ -62,4 +61,4 @@ returns-then-not-length_good c =
 pub returns : goal.returns
 unfolding table_answer if◌then◌else◌
 returns c =
-    rw (long (goal.at.returns c).Else-t-lt7, marked (goal.at.returns c).Else-not-mark_good, versioned (goal.at.returns c).Else-not-version_good, limited (goal.at.returns c).Else-not-limits_good, exact (goal.at.returns c).Else-not-length_good c.scan.ensures
+    rw (long (goal.at.returns c).Else-t-lt7, marked (goal.at.returns c).Else-not-mark_good, versioned (goal.at.returns c).Else-not-version_good, limited (goal.at.returns c).Else-not-limits_good, exact (goal.at.returns c).Else-not-length_good) c.scan.ensures

@@ -35,12 +35,14 @@ pub returns : goal.returns
 unfolding ROWS
 returns c =
     let inv = c.loop-i.invariant in
+    let parent-marked = at in
+    let parent = parent-marked in
     record {
       is =
           λ words long.
-          let above = rw (c.on_parent.ensures words, c.parent.ensures words) c (c.mark-least.ensures long) in
+          let above = rw (parent.on_parent.ensures words, parent.parent.ensures words) at (parent-marked.mark-least.ensures long) in
           let links = among_end _ c.loop-i.i _ inv.0 c.loop-i-test.false inv.1.0 (inv.1.1 words (above.long ∙ long)) in
-          adds_then above (rw (c.wide-i.ensures, c.wide-end.ensures, c.row-at.ensures.0) c links);
+          adds_then above (rw (c.wide-i.ensures, c.wide-end.ensures, c.row-at.ensures.0) at links);
     }
 
 -- each link that is looked at is p's own, where the index is right; the next turn looks at a later one, so each is looked at once

@@ -34,7 +34,7 @@ begins : (c : After-pass-low) → let a = c.args in
 unfolding ROWS
 begins c words none z =
     let marked = c.pass-low.ensures.is words (rw none (length-set (replicate ROWS false) c.row.result true ∙ length-replicate ROWS false)) in
-    swept_start _ _ _ (omega arith) (omega arith) z (rw (c.row.ensures.0, none) c marked)
+    swept_start _ _ _ (omega arith) (omega arith) z (rw (c.row.ensures.0, none) at marked)
 
 -- request Two: at each turn the marked devices among those passed are exactly the wake set's
 pub each_step : (c : At-loop-low) → let a = c.args in

@@ -1,5 +1,4 @@
 -- `writer_lists::device_fits` meets its contract: each exit is one test of `device_fits`. Assumes nothing.
--- ---- places: the parent's rule, the entry that is whole, the start of the call
 use mathlib.Core.Path.{◌≡◌}
 use mathlib.Core.Bool.{true}
 use Prim.Native.Nat.{◌*◌, ◌+◌}

@@ -1,5 +1,4 @@
 -- `writer_lists::link_whole` meets its contract: each exit is one test of `link_whole`. Assumes nothing.
--- ---- places: the rule of the ends, the entry that is whole, the start of the call
 use mathlib.Core.Path.{◌≡◌}
 use mathlib.Core.Bool.{true}
 use Prim.Native.Nat.{◌*◌, ◌+◌}

@@ -15,7 +15,7 @@ taken : (c : Else-d-gt9) → let at = c.loop-i in
     size_after (10 * at.value + c.digit-d.result) (drop (at.i + 1) (c.args.text.now)) ≡ size_of (c.args.text.now)
 taken c =
     let at = c.loop-i in
-    turn_on (c.args.text.now) at.i at.value c.loop-i-test.true c.digit-d.ensures c.if-d-gt9.false ∙ at.inv.2
+    turn_on (c.args.text.now) at.i at.value c.loop-i-test.true c.digit-d.ensures c.if-d-gt9.false ∙ at.invariant.2
 
 pub loop-i-init : goal.loop-i-init
 unfolding size_of
@@ -34,7 +34,7 @@ returns-then-value-gt-MOST c =
     sym (size_large _ (drop (c.loop-i.i + 1) (c.args.text.now)) c.if-value-gt-MOST.true) ∙ taken (goal.at.returns-then-value-gt-MOST c).Else-d-gt9
 
 pub loop-i-preserved : goal.loop-i-preserved
-loop-i-preserved c = (omega arith, c.if-value-gt-MOST.false, taken (goal.at.loop-i-preserved c).Else-d-gt9
+loop-i-preserved c = (omega arith, c.if-value-gt-MOST.false, taken (goal.at.loop-i-preserved c).Else-d-gt9)
 
 -- no digit, or zeros alone
 pub returns-then-value-eq0 : goal.returns-then-value-eq0
