@@ -22,7 +22,7 @@ returns-then-not-keep c =
     let gave = c.load-loaded.ensures in
     let taken = sym c.number-fault.ensures ∙ c.if-fault-ne0.false in
     let unwritten = saved_room _ _ _ (loaded_sound _ gave taken) c.keep.ensures (not-true _ c.if-not-keep.true-raw) in
-    rw (to_z-of_z (record { sfits = c.refused2.type-inv }), c.refused-then-not-keep.ensures) (load_saved _ _ gave taken unwritten)
+    rw (to_z-of_z (record { sfits = c.refused-then-not-keep.type-inv }), c.refused-then-not-keep.ensures) (load_saved _ _ gave taken unwritten)
 
 -- taken
 pub returns : goal.returns
