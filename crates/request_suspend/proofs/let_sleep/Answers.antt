@@ -21,7 +21,7 @@ coded c =
     code_of _ _ _ c.suspend_test.ensures waking sleeping c.choose-own.ensures c.first_code-code.ensures
 
 -- whether the request ends there
-ends_by : (c : After-either) → let put = c.put_first in let a = c.args in
+ends_by : (c : After-either) → let put = c.put_first-put in let a = c.args in
     ends a.kind (state_in a.bytes.now put.last.0) a.p put.result ≡ c.either.result
 ends_by c = sym (rw (c.still_used.ensures c.args.bytes.now) at c.either.ensures)
 
