@@ -47,9 +47,10 @@ programs:
 	@echo "step 2 of 2: building the hosts of the programs"
 	@$(MAKE) --no-print-directory hosts
 
-# the Rust programs around the proved ones
+# the Rust programs around the proved ones, which they look for in KEEPER_PROGRAMS, or beside themselves
 hosts:
-	cd host && cargo build --release --offline --quiet
+	@cd host && cargo build --release --offline --quiet
+	@cp $(PROGRAMS:%=$(KEEPER_PROGRAMS)/%) host/target/release/
 
 # the calls for a C host: the library, which a C or C++ program is linked with, and its header
 c-host:
