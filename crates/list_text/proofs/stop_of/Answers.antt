@@ -3,7 +3,6 @@
 use mathlib.Core.Path.{refl}
 use Prim.Native.Nat.{◌-◌}
 use native.Mathlib.Omega.{arith}
-use Rattle.list_text.specs.Places.{before}
 use Rattle.list_text.proofs.Cutting.{feed_here, feed_on, feed_none}
 use Rattle.list_text.proofs.stop_of.Goals as goal
 

@@ -1,8 +1,6 @@
 -- A refused table is told; one that is taken is replayed from its bench, and the bench that is saved and told is the last one. Assumes nothing.
 use mathlib.Core.Path.{◌≡◌, refl, sym, ap, ◌∙◌}
-use mathlib.Core.List.{List}
 use mathlib.Core.Logic.{⊎_elim}
-use Prim.Native.Nat.{ℕ}
 use Rattle.model.specs.State.{Loaded, load_of}
 use Rattle.table.proofs.Handing.{refused, taken}
 use Rattle.replay_pieces.specs.Poured.{Replayed}

@@ -1,9 +1,7 @@
 -- A refused state is told; from the bench of one that is taken the log goes on, and the bench that is saved and told is the last one. Assumes
 -- nothing.
 use mathlib.Core.Path.{◌≡◌, refl, sym, ap, ◌∙◌}
-use mathlib.Core.List.{List}
 use mathlib.Core.Logic.{⊎_elim}
-use Prim.Native.Nat.{ℕ}
 use Rattle.saved_form.specs.Restoring.{Restored, restore_of}
 use Rattle.replay_session.proofs.Sessions.{ran_done, ran_failed, judged_refused, judged_taken}
 use Rattle.resume_program.specs.Resumed.{Resumed}
