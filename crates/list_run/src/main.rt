@@ -1,0 +1,7 @@
+#![tactic(auto)]
+// list TABLE, ending with the status that `list_program::run` gives.
+use std::process::ExitCode;
+
+fn main(rt: HostRuntime) -> ExitCode {
+    ExitCode::from(list_program::run(&rt))
+}

@@ -1,0 +1,7 @@
+#![tactic(auto)]
+// replay TABLE LOG REPLIES [PIECE] [--save STATE], ending with the status that `replay_program::run` gives.
+use std::process::ExitCode;
+
+fn main(rt: HostRuntime) -> ExitCode {
+    ExitCode::from(replay_program::run(&rt))
+}
