@@ -1,4 +1,6 @@
 // Small functions that many crates share: numbers as indices, and tests joined without a branch.
+#![tactic(auto)]
+
 ghost use Rattle.std.specs.Prelude.{◌≡◌, ◌<◌};
 ghost use Rattle.model.specs.Limits.{ROWS};
 ghost use Rattle.model.specs.Logic.{if◌then◌else◌, ◌and◌, ◌or◌};

@@ -1,4 +1,6 @@
 // The bench that a C host keeps as bytes, and the questions by their numbers.
+#![tactic(auto)]
+
 ghost use Rattle.std.specs.Prelude.{◌≡◌, false};
 ghost use Rattle.model.specs.Questions.{told};
 ghost use Rattle.keeper_bench.specs.Translate.{state_of};

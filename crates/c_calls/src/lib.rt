@@ -1,4 +1,6 @@
 // Numbers as a C host has them: results, signed, and parts, of 32 bits.
+#![tactic(auto)]
+
 ghost use Rattle.std.specs.Prelude.{◌≡◌, ◌%◌, ◌/◌, pos, neg_ℤ};
 ghost use Rattle.c_calls.specs.Numbers.{RANGE, answered, device_of};
 

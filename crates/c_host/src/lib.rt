@@ -1,5 +1,7 @@
 // The calls of a C host (request Five of document 02, "A C host"): the bench is kept by the host as bytes, which begin with its saved state.
 // A slice is a pointer and a length in C; a null pointer with length 0 is an empty slice. `include/keeper.h` declares the functions.
+#![tactic(auto)]
+
 ghost use Rattle.std.specs.Prelude.{◌≡◌};
 ghost use Rattle.saved_write.specs.Writes.{WriteIs};
 ghost use Rattle.c_calls.specs.Calls.{load_bytes, feed_bytes, ask_bytes};

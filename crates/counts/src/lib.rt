@@ -1,4 +1,6 @@
 // The stored counts of powered children and of powered consumers' runtime links, brought into line as one device's status changes.
+#![tactic(auto)]
+
 ghost use Rattle.std.specs.Prelude.{◌≡◌, List, ℕ};
 ghost use Rattle.model.specs.Logic.{if◌then◌else◌};
 ghost use Rattle.model.specs.State.{powered};

@@ -1,4 +1,6 @@
 // The public questions and the methods of a bench as functions that Rust links.
+#![tactic(auto)]
+
 ghost use Rattle.std.specs.Prelude.{◌≡◌, ◌+◌};
 ghost use Rattle.memory.specs.Layout.{state_in};
 ghost use Rattle.request_answer.specs.Promises.{reply_of};

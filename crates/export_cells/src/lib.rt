@@ -1,6 +1,8 @@
 // A cell of the memory by its field and its row, as functions that Rust links. Fields 0 to 10 are the columns: parent, ignore, status,
 // depth, children; consumer, supplier, flags; holds, error, linked. Field 11 has the numbers of the whole bench: n, m, the callback's kind,
 // the device asked, the target, how many bytes are carried, and those.
+#![tactic(auto)]
+
 ghost use Rattle.std.specs.Prelude.{◌≡◌, ◌%◌, get_or, set};
 ghost use Rattle.model.specs.State.{with_carry};
 ghost use Rattle.memory.specs.Layout.{state_in, WholeBytesBecome};

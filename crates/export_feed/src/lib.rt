@@ -1,5 +1,7 @@
 // A piece of log on the memory of a bench, for the tests to call. It is a library of its own: with one caller of the dispatch in it,
 // the compiler makes the loop and the dispatch one piece of code, as in `replay_program`.
+#![tactic(auto)]
+
 ghost use Rattle.std.specs.Prelude.{◌≡◌};
 ghost use Rattle.record_answer.specs.Answers.{number_of, replies_of};
 ghost use Rattle.export_feed.specs.Fed.{fed_code, FedIn};

@@ -1,4 +1,6 @@
 // Saving and restoring as functions that Rust links: the memory of a bench into bytes, and bytes into a memory.
+#![tactic(auto)]
+
 ghost use Rattle.export_saved.specs.Saves.{SaveIs, RestoreIs};
 
 use basics::word8;

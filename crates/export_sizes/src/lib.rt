@@ -1,4 +1,6 @@
 // How large the memory of a bench is, for the tests.
+#![tactic(auto)]
+
 ghost use Rattle.std.specs.Prelude.{◌≡◌};
 ghost use Rattle.memory.specs.Layout.{BYTES, WORDS};
 

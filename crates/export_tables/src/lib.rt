@@ -1,4 +1,6 @@
 // The loader and the writer as functions that Rust links: a table into the memory of a bench, two lists into a table.
+#![tactic(auto)]
+
 ghost use Rattle.std.specs.Prelude.{◌≡◌, ◌+◌, ◌*◌};
 ghost use Rattle.table.specs.Answers.{answer_of};
 ghost use Rattle.writer_answer.specs.Outcomes.{outcome_of};

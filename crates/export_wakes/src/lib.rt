@@ -1,4 +1,6 @@
 // Wake sets and parents over the memory of a bench, as functions that Rust links.
+#![tactic(auto)]
+
 ghost use Rattle.parents.specs.Parents.{Above};
 ghost use Rattle.export_wakes.specs.Exported.{WakeSetIs, LowestIs};
 

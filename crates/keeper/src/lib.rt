@@ -1,4 +1,6 @@
 // The keeper: a table is loaded into a bench, and pieces of log are fed to it.
+#![tactic(auto)]
+
 ghost use Rattle.std.specs.Prelude.{◌≡◌};
 ghost use Rattle.model.specs.Table.{devices_in, links_in, wiring_in};
 ghost use Rattle.model.specs.State.{loaded, empty_state, load_of};

@@ -1,4 +1,6 @@
 // The answers to the public questions on a bench: a refusal (21, then 24) or what is asked for; and each answer as one number.
+#![tactic(auto)]
+
 ghost use Rattle.std.specs.Prelude.{◌≡◌};
 ghost use Rattle.model.specs.Logic.{bit};
 ghost use Rattle.keeper_answers.specs.Told.{status_of, status_for, told_by, status_told, number_told, member_told, told_code};

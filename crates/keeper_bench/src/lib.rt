@@ -1,4 +1,6 @@
 // The keeper's bench: its memory, the soundness test, and a method for each request and result.
+#![tactic(auto)]
+
 ghost use Rattle.keeper_bench.specs.Translate.{state_of};
 ghost use Rattle.keeper_bench.specs.Verdict.{Verdict};
 

@@ -1,4 +1,6 @@
 // The public questions on a bench. Each is refused first where the bench is not sound (21), then where a device is unknown (24).
+#![tactic(auto)]
+
 ghost use Rattle.std.specs.Prelude.{◌≡◌, not, ◌<◌, leb};
 ghost use Rattle.model.specs.Logic.{◌or◌};
 ghost use Rattle.model.specs.Questions.{tell_status, tell_holds, tell_usage, tell_children, tell_wake, tell_above};

@@ -1,4 +1,6 @@
 // What a line of a list of parts and links says.
+#![tactic(auto)]
+
 ghost use Rattle.std.specs.Prelude.{◌≡◌};
 ghost use Rattle.replay_text.specs.Sizes.{is_digit};
 ghost use Rattle.list_lines.specs.Numbers.{same, capped, number_in, parent_in, Most};

@@ -1,4 +1,6 @@
 // From the text of a list to the bytes of a table, or to what is told of a list that is turned away.
+#![tactic(auto)]
+
 ghost use Rattle.std.specs.Prelude.{◌≡◌};
 ghost use Rattle.writer_answer.specs.Outcomes.{outcome_of};
 ghost use Rattle.list_make.specs.Making.{over_line, refused_line, made_from, Makes, MakesOf};

@@ -1,4 +1,6 @@
 // The lines of a list of parts and links.
+#![tactic(auto)]
+
 ghost use Rattle.std.specs.Prelude.{◌≡◌};
 ghost use Rattle.replay_text.specs.Line.{line_of, added};
 ghost use Rattle.list_print.specs.Lines.{parent_text, part_text, link_text};

@@ -1,5 +1,6 @@
-#![tactic(auto)]
 // The program `list`: a table file as a text list of devices and links.
+#![tactic(auto)]
+
 ghost use Rattle.std.specs.Prelude.{◌≡◌, ◌⊎◌};
 ghost use Rattle.model.specs.Table.{table_answer};
 ghost use Rattle.list_program.specs.Ends.{Listed};

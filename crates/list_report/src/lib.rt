@@ -1,4 +1,6 @@
 // What the program `write` prints of a list that it turns away.
+#![tactic(auto)]
+
 ghost use Rattle.std.specs.Prelude.{◌≡◌};
 ghost use Rattle.replay_text.specs.Line.{line_of};
 ghost use Rattle.list_report.specs.Lines.{refused_text, nowhere_text, large_text, wrong_text, long_text};

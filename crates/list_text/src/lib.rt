@@ -1,4 +1,6 @@
 // The text of a list, in any number of lines: its parts, its links, and the lines in which they stand.
+#![tactic(auto)]
+
 ghost use Rattle.std.specs.Prelude.{◌≡◌, ◌+◌, ◌≤◌, ◌<◌, length, set};
 ghost use Rattle.list_text.specs.Texts.{is_of, fault_in, Gathered, line_number};
 ghost use Rattle.list_text.specs.Places.{Stopped, Read, Stored};

@@ -1,4 +1,6 @@
 // The words of a line of a list.
+#![tactic(auto)]
+
 ghost use Rattle.std.specs.Prelude.{◌≡◌};
 ghost use Rattle.list_words.specs.Words.{is_blank, stops, Scanned, before, from, word_in};
 

@@ -1,6 +1,8 @@
 // The memory of the bench: two arrays of cells. What stands where is known here and in specs/Layout.antt alone; every other crate reads
 // and changes the state through these functions, and through those of `memory_rows`, `memory_links` and `memory_stores`, which know the
 // numbers of the pages. Outside the pages and the rows a reader answers 0 and a setter changes nothing.
+#![tactic(auto)]
+
 ghost use Rattle.std.specs.Prelude.{◌≡◌, List, ℕ, ◌≤◌, get_or, length};
 ghost use Rattle.model.specs.State.{with_callback, with_carry};
 ghost use Rattle.memory.specs.Layout.{BYTES, byte_col, link_col, word_col, state_in, WholeBytesBecome, WholeWordsBecome};

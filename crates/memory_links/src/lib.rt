@@ -1,5 +1,7 @@
 // A reader and a setter for each link column of the memory, by the number of a link. Each names its page; where the page stands `memory`
 // knows. Past the rows a reader answers 0 and a setter changes nothing.
+#![tactic(auto)]
+
 ghost use Rattle.std.specs.Prelude.{◌≡◌, List, ℕ, get_or};
 ghost use Rattle.memory.specs.Layout.{state_in, BytesBecome};
 ghost use Rattle.memory.specs.Cells.{with_consumer, with_supplier, with_flags};

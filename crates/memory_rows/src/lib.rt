@@ -1,5 +1,7 @@
 // A reader for each device column of the memory, by the number of a device, which always has a row. Each names its page; where the page
 // stands `memory` knows.
+#![tactic(auto)]
+
 ghost use Rattle.std.specs.Prelude.{◌≡◌, List, ℕ, get_or};
 ghost use Rattle.model.specs.State.{status_at, holds_at, depth_at, error_at, children_at, linked_at};
 ghost use Rattle.memory.specs.Layout.{state_in};

@@ -1,5 +1,7 @@
 // A setter for each device column of the memory, by the number of a device, which always has a row. Each names its page; where the page
 // stands `memory` knows.
+#![tactic(auto)]
+
 ghost use Rattle.model.specs.State.{with_holds, with_depth, with_error, with_ignore};
 ghost use Rattle.memory.specs.Layout.{BytesBecome, WordsBecome};
 ghost use Rattle.memory.specs.Cells.{with_status_cell, with_children, with_linked, with_parent};

@@ -1,4 +1,5 @@
 // The meaning of the keeper: definitions in specs/, their laws in proofs/. Of code there are only the limits and numbers.
+#![tactic(auto)]
 
 // The rows of a device column, and of a link column.
 pub const ROWS: usize = 256;

@@ -1,4 +1,6 @@
 // How many parents stand above a device.
+#![tactic(auto)]
+
 ghost use Rattle.parents.specs.Parents.{Above};
 
 use memory::BYTES;

@@ -1,4 +1,6 @@
 // How a program ends.
+#![tactic(auto)]
+
 ghost use Rattle.std.specs.Prelude.{◌≡◌};
 ghost use Rattle.program_end.specs.Ends.{status_of};
 

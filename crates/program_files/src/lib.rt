@@ -1,5 +1,6 @@
-#![tactic(auto)]
 // What every program does with files: what is read, what is written, and what is said where a file fails.
+#![tactic(auto)]
+
 ghost use Rattle.std.specs.Prelude.{◌≤◌, ◌≡◌, length};
 ghost use Rattle.std.specs.Io.{WritesAtMost};
 ghost use Rattle.io.specs.Counts.{IsPrefixLen};

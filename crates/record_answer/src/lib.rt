@@ -1,4 +1,6 @@
 // What becomes of a piece of log, and document 01's number of it.
+#![tactic(auto)]
+
 ghost use Rattle.std.specs.Prelude.{◌≡◌};
 ghost use Rattle.record_answer.specs.Answers.{number_of, replies_of};
 

@@ -1,4 +1,6 @@
 // A piece of log over the memory of a bench: its records answered in order, the bytes left over carried.
+#![tactic(auto)]
+
 ghost use Rattle.record_loop.specs.Runs.{Room};
 ghost use Rattle.record_feed.specs.Pieces.{Took, FedIn};
 

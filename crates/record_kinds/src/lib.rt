@@ -1,4 +1,6 @@
 // A record's kind: the table of kinds, refusals 11 to 13, and which kinds wait while a callback is open.
+#![tactic(auto)]
+
 ghost use Rattle.std.specs.Prelude.{◌≡◌, not, List, ℕ, ◌≤◌, eqb};
 ghost use Rattle.model.specs.Logic.{◌and◌};
 ghost use Rattle.model.specs.Records.{LAST, kind_of, signed, allowed, fault};

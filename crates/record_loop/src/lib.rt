@@ -1,4 +1,6 @@
 // The records of a piece of log one after another.
+#![tactic(auto)]
+
 ghost use Rattle.std.specs.Prelude.{◌≡◌, ◌+◌, ◌*◌, ◌≤◌, length};
 ghost use Rattle.model.specs.Limits.{MAXPIECE};
 ghost use Rattle.model.specs.Records.{reply_bytes};

@@ -1,4 +1,6 @@
 // The records of a piece of log and of the bytes carried before it, and the bytes left over.
+#![tactic(auto)]
+
 ghost use Rattle.std.specs.Prelude.{◌≡◌, ◌≤◌, length, get_or};
 ghost use Rattle.record_loop.specs.Runs.{joined, four_in, rest_in, Room, Ran};
 ghost use Rattle.record_piece.specs.Parts.{At, RoomFrom, RanFrom, PieceAnswered};

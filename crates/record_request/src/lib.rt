@@ -1,4 +1,6 @@
 // The requests by their kinds: the dispatch.
+#![tactic(auto)]
+
 ghost use Rattle.record_request.specs.Dispatch.{RequestLeads};
 
 use basics::both;

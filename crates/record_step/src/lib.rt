@@ -1,4 +1,6 @@
 // One record and its one reply: refusals 11 to 15, -115, and the request or the result itself.
+#![tactic(auto)]
+
 ghost use Rattle.std.specs.Prelude.{◌≡◌, List, ℕ};
 ghost use Rattle.model.specs.Steps.{result_step};
 ghost use Rattle.memory.specs.Layout.{state_in};

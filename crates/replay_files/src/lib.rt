@@ -1,5 +1,6 @@
-#![tactic(auto)]
 // The files of the programs `replay` and `resume`: their arguments, and what they say and print.
+#![tactic(auto)]
+
 pub mod arguments;
 pub mod files;
 pub mod printed;

@@ -1,5 +1,6 @@
-#![tactic(auto)]
 // The replay of the log that the arguments name.
+#![tactic(auto)]
+
 ghost use Rattle.std.specs.Prelude.{◌≡◌, ◌⊎◌};
 ghost use Rattle.replay_session.specs.Sessions.{Went};
 

@@ -1,5 +1,6 @@
-#![tactic(auto)]
 // The program `replay`: a log is fed to the keeper in pieces, its replies go to a file, and the state that it leaves is printed.
+#![tactic(auto)]
+
 ghost use Rattle.std.specs.Prelude.{◌≡◌, ◌⊎◌};
 ghost use Rattle.model.specs.State.{load_of};
 ghost use Rattle.replay_pieces.specs.Poured.{Replayed};

@@ -1,4 +1,6 @@
 // What the programs `replay` and `resume` say of a piece that is refused and of a state that cannot be saved or restored.
+#![tactic(auto)]
+
 ghost use Rattle.std.specs.Prelude.{◌≡◌};
 ghost use Rattle.replay_text.specs.Line.{line_of};
 ghost use Rattle.replay_refusals.specs.Lines.{speaker_text, stopped_text, unsaved_text, unrestored_text};

@@ -1,4 +1,6 @@
 // What the programs `replay` and `resume` print.
+#![tactic(auto)]
+
 ghost use Rattle.std.specs.Prelude.{◌≡◌};
 ghost use Rattle.table.specs.Answers.{answer_of};
 ghost use Rattle.replay_text.specs.Line.{line_of};

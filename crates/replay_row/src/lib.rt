@@ -1,4 +1,6 @@
 // The line that the program `replay` prints of a device.
+#![tactic(auto)]
+
 ghost use Rattle.std.specs.Prelude.{◌≡◌, ◌+◌};
 ghost use Rattle.replay_text.specs.Line.{line_of, added};
 ghost use Rattle.replay_row.specs.Rows.{status_text, sign_text, row_text};

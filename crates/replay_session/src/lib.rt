@@ -1,5 +1,6 @@
-#![tactic(auto)]
 // The replay of an open log: pieces are read, fed to the keeper and answered until the log ends.
+#![tactic(auto)]
+
 ghost use Rattle.std.specs.Prelude.{◌≡◌, false, ◌⊎◌};
 ghost use Rattle.model.specs.Steps.{run, replies_in};
 ghost use Rattle.keeper_bench.specs.Translate.{state_of};

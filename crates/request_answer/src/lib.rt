@@ -1,4 +1,6 @@
 // What a request or a callback result is answered.
+#![tactic(auto)]
+
 ghost use Rattle.std.specs.Prelude.{◌≡◌};
 ghost use Rattle.request_answer.specs.Promises.{magnitude};
 

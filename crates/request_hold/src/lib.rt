@@ -1,4 +1,6 @@
 // Kinds 1, 2, 3 and 5: disable depths and user holds.
+#![tactic(auto)]
+
 ghost use Rattle.std.specs.Prelude.{List, ℕ};
 ghost use Rattle.model.specs.Requests.{enable, disable, get, put};
 ghost use Rattle.request_answer.specs.Promises.{Does};

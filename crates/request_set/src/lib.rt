@@ -1,4 +1,6 @@
 // Kinds 10, 11 and 12: status and flag set from outside.
+#![tactic(auto)]
+
 ghost use Rattle.std.specs.Prelude.{◌≡◌, List, ℕ, ◌<◌};
 ghost use Rattle.model.specs.Limits.{LINKS};
 ghost use Rattle.model.specs.Requests.{running, parent_down, set_active, needed, set_suspended};

@@ -1,4 +1,6 @@
 // Kinds 6, 7 and 8, and the results of the idle and suspend callbacks.
+#![tactic(auto)]
+
 ghost use Rattle.std.specs.Prelude.{◌≡◌, List, ℕ, ltb};
 ghost use Rattle.model.specs.Logic.{if◌then◌else◌};
 ghost use Rattle.model.specs.Requests.{ask_suspend};

@@ -1,4 +1,6 @@
 // Kinds 4 and 9, and the result of the resume callback.
+#![tactic(auto)]
+
 ghost use Rattle.std.specs.Prelude.{◌≡◌};
 ghost use Rattle.model.specs.Requests.{wake, get_wake};
 ghost use Rattle.model.specs.Steps.{go_on};

@@ -1,5 +1,6 @@
-#![tactic(auto)]
 // The program `resume`: a bench is restored from a file, and a log goes on from it as in the program `replay`.
+#![tactic(auto)]
+
 ghost use Rattle.std.specs.Prelude.{◌≡◌, ◌⊎◌};
 ghost use Rattle.saved_form.specs.Restoring.{restore_of};
 ghost use Rattle.replay_session.specs.Sessions.{Ran, Judged};

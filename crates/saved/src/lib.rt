@@ -1,4 +1,6 @@
 // A bench saved to a buffer, and restored from bytes of any contents (request Four of document 02, "Keep the bench through a battery change").
+#![tactic(auto)]
+
 ghost use Rattle.std.specs.Prelude.{◌≡◌};
 ghost use Rattle.keeper_bench.specs.Translate.{state_of};
 ghost use Rattle.saved_answer.specs.Answers.{restoring_of};

@@ -1,4 +1,6 @@
 // What becomes of a bench that is to be saved and of bytes that are to be restored, and document 02's number of it (request Four).
+#![tactic(auto)]
+
 ghost use Rattle.std.specs.Prelude.{◌≡◌};
 ghost use Rattle.saved_answer.specs.Answers.{saving_of, restoring_of};
 

@@ -1,4 +1,6 @@
 // Cells copied between a form and the arrays of a memory: as many as there are, and as there is room for.
+#![tactic(auto)]
+
 ghost use Rattle.std.specs.Prelude.{◌≡◌, ◌+◌, ◌≤◌, ◌/◌, min, length, take};
 ghost use Rattle.model.specs.Feed.{over};
 ghost use Rattle.saved_form.specs.Words.{word_bytes, word_of, words_from};

@@ -1,5 +1,7 @@
 // The saved state of a bench (request Four of document 02): how long it is, and where its cells stand. What it says is in specs/, its laws
 // are in proofs/.
+#![tactic(auto)]
+
 use memory::{BYTES, WORDS};
 
 // The mark "TWS" and the version, two bytes.

@@ -1,5 +1,7 @@
 // The memory that a saved state gives: its header and its length tested, its cells copied to their places. Whether that is a sound bench is
 // not asked here.
+#![tactic(auto)]
+
 ghost use Rattle.std.specs.Prelude.{◌≡◌, ◌+◌, ◌*◌, ◌≤◌, length, replicate};
 ghost use Rattle.memory.specs.Layout.{BYTES, WORDS, area};
 ghost use Rattle.saved_form.specs.Words.{words_from};

@@ -1,4 +1,6 @@
 // The saved state of a memory, written to a buffer. Whether the memory is that of a sound bench is not asked here.
+#![tactic(auto)]
+
 ghost use Rattle.std.specs.Prelude.{◌≡◌, ◌+◌, ◌*◌, ◌≤◌, length};
 ghost use Rattle.saved_form.specs.Words.{word_bytes};
 ghost use Rattle.saved_form.specs.Restoring.{laid};

@@ -1,5 +1,7 @@
 // The soundness test of a bench, whole ("A bench is sound exactly when ..", document 01): the columns by `sound_columns`, then the carried
 // bytes and the open callback.
+#![tactic(auto)]
+
 ghost use Rattle.std.specs.Prelude.{◌≡◌, ◌<◌};
 ghost use Rattle.model.specs.SoundTest.{carried_test, steady_test, all_steady, others_steady, none_test, suspend_open_test};
 ghost use Rattle.model.specs.SoundTest.{idle_open_test, callback_test, sound_test};

@@ -1,5 +1,7 @@
 // The soundness test of a bench but for the open callback and the carried bytes, over a memory of any contents. Its loops go through every
 // row and join the tests, so that a compiler can take several rows at once.
+#![tactic(auto)]
+
 ghost use Rattle.std.specs.Prelude.{◌≡◌, List, ℕ, ◌-◌, ◌<◌, ◌≤◌};
 ghost use Rattle.model.specs.Limits.{LINKS};
 ghost use Rattle.model.specs.Logic.{all};

@@ -1,6 +1,8 @@
 // Parts of the soundness test on a column and on the values of one device or link: a column in range, a column the same as another, the
 // order of two links, what a device or a link adds to a count. The loops go through every row and join the tests, so that a compiler can
 // take several rows at once.
+#![tactic(auto)]
+
 ghost use Rattle.std.specs.Prelude.{◌≡◌};
 ghost use Rattle.model.specs.Limits.{LINKS, ROWS};
 ghost use Rattle.model.specs.Table.{before};

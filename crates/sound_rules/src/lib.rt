@@ -1,6 +1,8 @@
 // The rules of the soundness test for every device and every link, over a memory of any contents: a parent and a supplier have lower
 // numbers, and what a device rests on is powered. The loops go through all of them and join the tests, so that a compiler can take several
 // at once.
+#![tactic(auto)]
+
 ghost use Rattle.std.specs.Prelude.{◌≡◌};
 ghost use Rattle.model.specs.Logic.{all};
 ghost use Rattle.model.specs.Table.{parent_good, ends_good};

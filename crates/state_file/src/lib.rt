@@ -1,6 +1,7 @@
-#![tactic(auto)]
 // The file that a bench is saved to. It is written whole or not at all: a new file beside it takes its name once every byte has reached the
 // device.
+#![tactic(auto)]
+
 ghost use Rattle.std.specs.Prelude.{◌≡◌, ◌⊎◌};
 ghost use Rattle.io.specs.Counts.{IsPrefixLen};
 ghost use Rattle.keeper_bench.specs.Translate.{state_of};

@@ -1,4 +1,6 @@
 // The suspend test, and the use count that it reads.
+#![tactic(auto)]
+
 ghost use Rattle.std.specs.Prelude.{◌≡◌, List, ℕ, ◌+◌};
 ghost use Rattle.model.specs.Requests.{suspend_test};
 ghost use Rattle.memory.specs.Layout.{state_in};

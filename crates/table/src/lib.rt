@@ -1,4 +1,6 @@
 // The device table ("part table" of document 01): the answer to any bytes.
+#![tactic(auto)]
+
 ghost use Rattle.std.specs.Prelude.{◌≡◌};
 ghost use Rattle.model.specs.Table.{mark_good, version_good, limits_good, length_good, before, device_good, link_fits, ascends, entries_answer, table_answer};
 ghost use Rattle.table.specs.Answers.{answer_of};

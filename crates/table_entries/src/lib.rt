@@ -1,4 +1,6 @@
 // The bytes of a device table ("part table" of document 01), of any length, and of its entries; and the rules of an entry by itself.
+#![tactic(auto)]
+
 ghost use Rattle.std.specs.Prelude.{◌≡◌};
 ghost use Rattle.model.specs.Table.{byte_at, device_byte, link_byte, parent_good, ends_good};
 

@@ -1,4 +1,6 @@
 // Benches compared in every cell.
+#![tactic(auto)]
+
 ghost use Rattle.test_same.specs.Same.{Tells};
 
 use basics::both;

@@ -20,6 +20,8 @@
 //
 // BYTES are words of hexadecimal pairs: GROUP, GROUP*COPIES, or GROUP*COPIES+STEP, where each copy is the one before it plus STEP, byte
 // by byte.
+#![tactic(auto)]
+
 ghost use Rattle.std.specs.Prelude.{◌≤◌};
 
 mod hand;

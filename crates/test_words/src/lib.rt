@@ -1,4 +1,6 @@
 // The words of a line of a test script, and what they stand for: numbers, bytes, names.
+#![tactic(auto)]
+
 ghost use Rattle.std.specs.Prelude.{◌≡◌, true, ◌+◌, ◌*◌, ◌%◌, ◌<◌, ◌≤◌, length, get_or, drop};
 ghost use Rattle.test_words.specs.Words.{stops, Scanned, Word, word_in, Placed};
 ghost use Rattle.test_words.specs.Numbers.{digit_of, joined, value_after, minus, number_of, hex_byte, all_hex};

@@ -5,6 +5,8 @@
 //                            list of links
 //
 // Numbers are decimal. BYTES are written as in the other scripts (crates/test_script/src/lib.rt).
+#![tactic(auto)]
+
 mod attempt;
 mod show;
 

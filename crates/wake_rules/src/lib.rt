@@ -1,5 +1,7 @@
 // What the wake set asks of one device: whether it rests on a parent that sleeps, or by a link on a supplier that sleeps; and whether it
 // is barred.
+#![tactic(auto)]
+
 ghost use Rattle.std.specs.Prelude.{◌≡◌, List, ℕ};
 ghost use Rattle.model.specs.Requests.{barred};
 ghost use Rattle.memory.specs.Layout.{state_in};

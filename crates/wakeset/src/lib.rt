@@ -1,4 +1,6 @@
 // The wake set of a device in one sweep down the device numbers, its lowest member, and whether another member is barred.
+#![tactic(auto)]
+
 ghost use Rattle.std.specs.Prelude.{◌≡◌, length};
 ghost use Rattle.model.specs.Limits.{ROWS};
 ghost use Rattle.wakeset.specs.Marks.{IsWakeSet, HeardFrom, IsLowest, Reaches};

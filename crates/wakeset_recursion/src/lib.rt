@@ -1,5 +1,7 @@
 // The wake set of a device by the recursion that document 01 names for it: marking a device and marking its suppliers call each other.
 // Requests, results and the soundness test find wake sets by `wakeset`; this one stands beside it, for the test programs and the harness.
+#![tactic(auto)]
+
 ghost use Rattle.std.specs.Prelude.{◌≡◌, List, ℕ, ◌<◌};
 ghost use Rattle.model.specs.State.{ACTIVE, status_at};
 ghost use Rattle.memory.specs.Layout.{state_in};

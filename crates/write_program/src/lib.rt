@@ -1,5 +1,6 @@
-#![tactic(auto)]
 // The program `write`: a text list of devices and links into a table file.
+#![tactic(auto)]
+
 ghost use Rattle.std.specs.Prelude.{◌≡◌, ◌⊎◌};
 ghost use Rattle.write_program.specs.Ends.{TableFor, refusal_line, MadeFor, EndsBy, ListEnds};
 

@@ -1,4 +1,6 @@
 // What becomes of the lists that the writer of tables is given (request One of document 02), and the number and index of it.
+#![tactic(auto)]
+
 ghost use Rattle.std.specs.Prelude.{◌≡◌};
 ghost use Rattle.writer_answer.specs.Outcomes.{outcome_of};
 

@@ -1,4 +1,6 @@
 // The two lists that the writer of tables is given (request One of document 02): their entries, and the answer to them.
+#![tactic(auto)]
+
 ghost use Rattle.std.specs.Prelude.{◌≡◌, not};
 ghost use Rattle.model.specs.Logic.{first};
 ghost use Rattle.model.specs.Writing.{device_field, link_field, device_fits, link_whole, pair, repeats, link_taken, lists_answer};

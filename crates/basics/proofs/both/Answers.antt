@@ -1,0 +1,13 @@
+-- Both exits by the definition. Assumes nothing.
+-- the first holds
+use Rattle.model.specs.Logic.{◌and◌}
+use Rattle.basics.proofs.both.Goals as goal
+
+pub returns-then-a : goal.returns-then-a
+unfolding ◌and◌
+returns-then-a c = rw c.if-a.true
+
+-- it does not
+pub returns-else-a : goal.returns-else-a
+unfolding ◌and◌
+returns-else-a c = rw c.if-a.false

@@ -1,0 +1,13 @@
+-- Both exits by the definition. Assumes nothing.
+-- the first holds
+use Rattle.model.specs.Logic.{◌or◌}
+use Rattle.basics.proofs.either.Goals as goal
+
+pub returns-then-a : goal.returns-then-a
+unfolding ◌or◌
+returns-then-a c = rw c.if-a.true
+
+-- it does not
+pub returns-else-a : goal.returns-else-a
+unfolding ◌or◌
+returns-else-a c = rw c.if-a.false

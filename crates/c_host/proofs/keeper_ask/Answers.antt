@@ -1,0 +1,15 @@
+-- `c_host::keeper_ask` meets its contract: the answer to the question for the devices of the two parts, as a result. Assumes nothing.
+use mathlib.Core.Path.{◌∙◌}
+use mir.Facts.{to_z-of_z}
+use Rattle.c_calls.proofs.Calling.{asked_as}
+use Rattle.c_host.proofs.keeper_ask.Goals as goal
+
+pub returns : goal.returns
+returns c =
+    let ask = c.before in
+    let devices = ask.before in
+    let first = devices.before in
+    let bench = first.before.bench_in in
+    let args = first.before.before.before.args in
+    to_z-of_z (record { sfits = c.signed.type-inv }) ∙ c.signed.ensures
+    ∙ rw (ask.asked.ensures, devices.device-2.ensures, first.device.ensures) (asked_as _ _ bench.ensures.judged args.question args.part args.second)

@@ -1,0 +1,5 @@
+-- `export_cells::set_used` meets its contract. Assumes nothing.
+use Rattle.export_cells.proofs.set_used.Goals as goal
+
+pub returns : goal.returns
+returns c = λ words long. rw (c.before.before.carry-carried.ensures words long) at (c.set_carried.ensures words long)

@@ -1,0 +1,24 @@
+-- `keeper::feed` meets its contract: the arrays of a bench have their lengths by its type, and a piece fed to its memory gives what the
+-- model's does. Assumes nothing.
+use mathlib.Core.Path.{◌≡◌, sym}
+use lib.ListN.{length}
+use Rattle.model.specs.Limits.{LINKS, ROWS}
+use Rattle.memory.specs.Layout.{BYTES, WORDS}
+use borrow.Author.Rules.{rules}
+use Rattle.keeper.proofs.feed.Goals as goal
+
+many_bytes : (c : goal.Start) → length c.args.bench.bytes-1 ≡ BYTES
+unfolding BYTES ROWS LINKS
+many_bytes c = let g = c.well_formed.0 in search rules
+
+many_words : (c : goal.Start) → length c.args.bench.words-1 ≡ WORDS
+unfolding WORDS ROWS
+many_words c = let g = c.well_formed.0 in search rules
+
+-- the one exit
+pub returns : goal.returns
+returns c =
+    let fed = c.before.before in
+    let copied = fed.before.before.before.before in
+    let start = copied.before.before.before.before in
+    sym (fed.feed-answer.ensures.is (many_bytes start) (many_words start))

@@ -1,0 +1,19 @@
+-- `keeper_questions::usage_count` meets its contract: the use count of a device of a sound bench is below 2^32. Assumes nothing.
+use mathlib.Core.Path.{◌∙◌}
+use native.Mathlib.Omega.{arith}
+use Rattle.model.proofs.Logic.{tests}
+use Rattle.model.specs.Limits.{LINKS}
+use Rattle.model.proofs.Answers.{usage_low}
+use Rattle.keeper_questions.proofs.Telling.{answered}
+use Rattle.keeper_questions.proofs.usage_count.Goals as goal
+
+pub returns : goal.returns
+unfolding LINKS
+returns c =
+    let u = c.before.before in
+    let h = u.before.before.before.before in
+    let a = h.before.before.before in
+    let bytes = a.before.args.t1.bytes in
+    let e = rw (h.holds.ensures bytes, u.before.linked.ensures bytes) at u.usage-uses.ensures in
+    answered a.about-check.ensures c.tell_number.ensures
+    (λ s k. let l = usage_low s a.before.args.device (simp tests at k) in c.before.number64.ensures (omega arith) ∙ e)

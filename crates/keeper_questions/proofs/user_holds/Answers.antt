@@ -1,0 +1,8 @@
+-- `keeper_questions::user_holds` meets its contract. Assumes nothing.
+use Rattle.keeper_questions.proofs.Telling.{answered}
+use Rattle.keeper_questions.proofs.user_holds.Goals as goal
+
+pub returns : goal.returns
+returns c =
+    let a = c.before.before.before.before in
+    answered a.about-check.ensures c.tell_number.ensures (λ s k. c.before.holds.ensures a.before.args.t1.bytes)

@@ -1,0 +1,18 @@
+-- `list_report::nowhere` meets its contract: word by word, the line holds the text. Assumes nothing.
+use mathlib.Core.Path.{refl}
+use native.Mathlib.Omega.{arith}
+use Rattle.replay_text.specs.Text.{ascii}
+use Rattle.replay_text.proofs.Adding.{holds_start, holds_word, holds_field}
+use Rattle.list_report.specs.Lines.{nowhere_text}
+use Rattle.list_report.proofs.nowhere.Goals as goal
+
+pub returns : goal.returns
+unfolding ascii nowhere_text
+returns c =
+    let index = c.before.before in
+    let number = index.before.before in
+    let start = number.before.before in
+    let a = start.before.args in
+    let g = holds_field (ascii "refused ") a.number (holds_start start.start.ensures) refl number.field-numbered.ensures (omega arith) in
+    let k = holds_field (ascii " ") a.index g refl index.field.ensures (omega arith) in
+    (holds_word (ascii "\n") k c.word.ensures (omega arith)).line

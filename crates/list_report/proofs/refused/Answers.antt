@@ -1,0 +1,20 @@
+-- `list_report::refused` meets its contract: word by word, the line holds the text. Assumes nothing.
+use mathlib.Core.Path.{refl}
+use native.Mathlib.Omega.{arith}
+use Rattle.replay_text.specs.Text.{ascii}
+use Rattle.replay_text.proofs.Adding.{holds_start, holds_word, holds_field}
+use Rattle.list_report.specs.Lines.{refused_text}
+use Rattle.list_report.proofs.refused.Goals as goal
+
+pub returns : goal.returns
+unfolding ascii refused_text
+returns c =
+    let line = c.before.before in
+    let index = line.before.before in
+    let number = index.before.before in
+    let start = number.before.before in
+    let a = start.before.args in
+    let g = holds_field (ascii "refused ") a.number (holds_start start.start.ensures) refl number.field-numbered.ensures (omega arith) in
+    let k = holds_field (ascii " ") a.index g refl index.field-indexed.ensures (omega arith) in
+    let l = holds_field (ascii " line ") a.line k refl line.field.ensures (omega arith) in
+    (holds_word (ascii "\n") l c.word.ensures (omega arith)).line

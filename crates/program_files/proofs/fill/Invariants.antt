@@ -1,0 +1,11 @@
+-- The invariant: the bytes read lie within the part to fill. The measure is what is left of it. Assumes nothing.
+use mathlib.Core.Path.{◌≡◌}
+use Prim.Native.Nat.{◌≤◌, ◌-◌}
+use lib.ListN.{length}
+use Rattle.program_files.proofs.fill.Given as goal
+
+abbrev pub invariant-loop-done : goal.invariant-loop-done
+invariant-loop-done l = (l.initial.buf ≤ length l.size) × (l.done ≤ l.initial.buf) × (length l.buf ≡ length l.size)
+
+abbrev pub decreases-loop-done : goal.decreases-loop-done
+decreases-loop-done l = l.initial.buf - l.done

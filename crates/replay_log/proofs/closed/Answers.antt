@@ -1,0 +1,14 @@
+-- The end stays, or is a file's failure. Assumes nothing.
+-- the file of replies fails, lacks replies, or is complete
+use mathlib.Core.Path.{refl}
+use mathlib.Core.Logic.{inl, inr}
+use Rattle.replay_log.proofs.closed.Goals as goal
+
+pub returns-then-not-is_closed : goal.returns-then-not-is_closed
+returns-then-not-is_closed c = inr refl
+
+pub returns-in_default : goal.returns-in_default
+returns-in_default c = inl refl
+
+pub returns : goal.returns
+returns c = inl refl

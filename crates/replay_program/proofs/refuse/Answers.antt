@@ -1,0 +1,10 @@
+-- Each exit is one of the two ends. Assumes nothing.
+use mathlib.Core.Path.{refl}
+use mathlib.Core.Logic.{inl, inr}
+use Rattle.replay_program.proofs.refuse.Goals as goal
+
+pub returns-then-line : goal.returns-then-line
+returns-then-line c = inl refl
+
+pub returns : goal.returns
+returns c = inr refl

@@ -1,0 +1,15 @@
+-- Nothing more is fed where the read fails or the log ends, else one piece. Assumes nothing.
+-- the read fails
+use Rattle.replay_session.proofs.Sessions.{ran_done, ran_failed, stepped_none, stepped_one}
+use Rattle.replay_session.proofs.next.Goals as goal
+
+pub returns-then-read : goal.returns-then-read
+returns-then-read c = let ended = c.ended.ensures in stepped_none ended.0 (ran_failed ended.1) ended.2
+
+-- the log ends
+pub returns-then-count-eq0 : goal.returns-then-count-eq0
+returns-then-count-eq0 c = let ended = c.ended-then-count-eq0.ensures in stepped_none ended.0 (ran_done ended.1) ended.2
+
+-- a piece
+pub returns : goal.returns
+returns c = stepped_one c.fed.ensures

@@ -1,0 +1,66 @@
+-- `replay_text::size::read` meets its contract. The invariant: the bytes that are left give, after the value so far, what the whole text gives.
+-- Assumes nothing.
+use mathlib.Core.Path.{◌≡◌, refl, sym, ◌∙◌}
+use mathlib.Core.List.{List}
+use Prim.Native.Nat.{ℕ, ◌+◌, ◌*◌, ◌-◌, ◌≤◌}
+use native.Mathlib.Omega.{arith}
+use lib.ListN.{drop}
+use Rattle.replay_text.specs.Sizes.{size_after, size_of}
+use Rattle.replay_text.proofs.Reading.{turn_on, turn_stop, left_none, size_large, size_none, size_end}
+use Rattle.replay_text.proofs.size.read.Goals as goal
+
+-- the turn at which a digit was read, and the text
+abbrev head_of : goal.Else-d-gt9 → goal.At-loop-i
+head_of c = c.before.before.before.before
+
+abbrev text_of : goal.Else-d-gt9 → List ℕ
+text_of c = (head_of c).before.before.args.text.now
+
+-- the digit is taken into the value
+taken : (c : goal.Else-d-gt9) →
+    let at = (head_of c).loop-i in
+    size_after (10 * at.value + c.before.digit-d.result) (drop (at.i + 1) (text_of c)) ≡ size_of (text_of c)
+taken c =
+    let read = c.before in
+    let at = (head_of c).loop-i in
+    turn_on (text_of c) at.i at.value read.before.before.loop-i-test.true read.digit-d.ensures c.if-d-gt9.false ∙ at.inv.2
+
+pub loop-i-init : goal.loop-i-init
+unfolding size_of
+loop-i-init c = (omega arith, omega arith, refl)
+
+-- a byte is no digit
+pub returns-then-d-gt9 : goal.returns-then-d-gt9
+returns-then-d-gt9 c =
+    let read = c.before in
+    let turn = read.before.before in
+    let head = turn.before in
+    let at = head.loop-i in
+    let text = head.before.before.args.text.now in
+    sym (turn_stop text at.i at.value turn.loop-i-test.true read.digit-d.ensures c.if-d-gt9.true) ∙ at.invariant.2
+
+-- the value is too great
+pub returns-then-value-gt-MOST : goal.returns-then-value-gt-MOST
+returns-then-value-gt-MOST c =
+    let digit = c.before in
+    sym (size_large _ (drop ((head_of digit).loop-i.i + 1) (text_of digit)) c.if-value-gt-MOST.true) ∙ taken digit
+
+pub loop-i-preserved : goal.loop-i-preserved
+loop-i-preserved c = (omega arith, c.if-value-gt-MOST.false, taken c.before)
+
+-- no digit, or zeros alone
+pub returns-then-value-eq0 : goal.returns-then-value-eq0
+returns-then-value-eq0 c =
+    let ended = c.before in
+    let at = ended.before.loop-i in
+    let text = ended.before.before.before.args.text.now in
+    sym size_none ∙ sym (left_none text at.i 0 ended.loop-i-test.false) ∙ (rw c.if-value-eq0.true at at.invariant.2)
+
+-- a size
+pub returns : goal.returns
+returns c =
+    let ended = c.before in
+    let at = ended.before.loop-i in
+    let text = ended.before.before.before.args.text.now in
+    let l : 1 ≤ at.value = omega (arith, c.if-value-eq0.false) in
+    sym (size_end at.value l at.invariant.1) ∙ sym (left_none text at.i at.value ended.loop-i-test.false) ∙ at.invariant.2

@@ -1,0 +1,10 @@
+-- `saved_read::lay_bytes` meets its contract: the part is replaced whole. Assumes nothing.
+use Rattle.saved_read.proofs.Laying.{bytes_laid}
+use Rattle.saved_read.proofs.lay_bytes.Goals as goal
+
+pub returns : goal.returns
+returns c =
+    let copied = c.before.before in
+    let named = copied.before.before.before in
+    let start = named.before.before.before.before in
+    bytes_laid start.args.f.now _ _ _ _ _ start.requires.0 start.requires.1 copied.copy_bytes.ensures

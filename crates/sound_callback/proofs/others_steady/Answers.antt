@@ -1,0 +1,39 @@
+-- The invariant: `good` is the test of the devices passed. Assumes nothing.
+use mathlib.Core.Path.{refl}
+use Prim.Native.Nat.{◌-◌}
+use native.Mathlib.Omega.{arith}
+use Rattle.model.specs.Logic.{all}
+use Rattle.model.proofs.Loops.{all_next, all_done}
+use Rattle.model.specs.SoundTest.{others_steady}
+use Rattle.sound_callback.specs.Parts.{other_steady}
+use Rattle.sound_callback.proofs.others_steady.Goals as goal
+
+-- no device is passed
+pub loop-q-init : goal.loop-q-init
+unfolding all
+loop-q-init c = (omega arith, λ words. refl)
+
+-- one device more
+pub loop-q-preserved : goal.loop-q-preserved
+loop-q-preserved c =
+    let tested = c.before in
+    (omega arith, λ words. all_next _ _ (tested.other_steady.ensures.is words) (tested.before.before.loop-q.invariant.1 words) c.both-good.ensures)
+
+-- all n are passed
+pub returns : goal.returns
+unfolding others_steady other_steady
+returns c =
+    let q = c.before.loop-q in
+    let t = c.loop-q-test.false in
+    record {
+      is =
+          λ words.
+          let e = c.before.before.devices-n.ensures words in
+          all_done _ _ _ (let l = q.invariant.0 in omega arith) (omega arith) (q.invariant.1 words);
+    }
+
+pub overflow_add-q : goal.overflow_add-q
+overflow_add-q c = omega arith
+
+pub loop-q-smaller : goal.loop-q-smaller
+loop-q-smaller c = omega arith

@@ -1,0 +1,5 @@
+-- The index is that of the links. Assumes nothing.
+use Rattle.sound_callback.proofs.sound.Goals as goal
+
+pub returns : goal.returns
+returns c = c.sound_by.ensures.is c.before.before.index-first.ensures

@@ -1,0 +1,12 @@
+-- `sound_rules::links_supply` meets its contract. The invariant: `good` is the test of those passed. Assumes nothing.
+use Prim.Native.Nat.{◌-◌, ◌≤◌}
+use Rattle.model.specs.Logic.{all}
+use Rattle.model.specs.SoundTest.{link_supplies}
+use Rattle.sound_rules.specs.Sayings.{Says}
+use Rattle.sound_rules.proofs.links_supply.Given as goal
+
+abbrev pub invariant-loop-i : goal.invariant-loop-i
+invariant-loop-i l = (l.i ≤ l.m) × Says (λ s. all (link_supplies s.wiring s.devices.status) l.i) l.bytes l.good
+
+abbrev pub decreases-loop-i : goal.decreases-loop-i
+decreases-loop-i l = l.m - l.i

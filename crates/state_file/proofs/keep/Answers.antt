@@ -1,0 +1,78 @@
+-- `state_file::keep` meets its contract: a saving into a buffer of the form's length is the form, or is refused since the bench is not sound.
+-- Assumes nothing.
+-- ---- places: the answer, the saving, and the start of the call
+use mathlib.Core.Path.{◌≡◌, refl, sym, ◌∙◌}
+use mathlib.Core.List.{List}
+use Prim.Native.Nat.{ℕ}
+use native.Mathlib.Omega.{arith}
+use lib.ListN.{length, replicate, length-replicate}
+use borrow.Author.Rules.{rules}
+use Rattle.model.specs.Limits.{LINKS, ROWS}
+use Rattle.memory.specs.Layout.{BYTES, WORDS}
+use Rattle.saved_form.specs.Form.{FORM}
+use Rattle.state_file.proofs.Keeping.{sound_saved, unsound_refused, form_saved}
+use Rattle.state_file.proofs.keep.Goals as goal
+
+abbrev saving : goal.After-save_number-number → goal.After-save-saving
+saving n = n.before.before
+
+abbrev begun : goal.After-save-saving → goal.Start
+begun s = s.before.before.before.before
+
+-- the arrays of a bench have their lengths by its type
+many_bytes : (c : goal.Start) → length c.args.bench.bytes-1 ≡ BYTES
+unfolding BYTES ROWS LINKS
+many_bytes c = let g = c.well_formed.1.0 in search rules
+
+many_words : (c : goal.Start) → length c.args.bench.words ≡ WORDS
+unfolding WORDS ROWS
+many_words c = let g = c.well_formed.1.0 in search rules
+
+-- and the buffer that of a form
+abbrev buffer : List ℕ
+buffer = replicate FORM 0
+
+room : length buffer ≡ FORM
+room = length-replicate FORM 0
+
+-- nothing is asked
+pub returns-then-task-eq0 : goal.returns-then-task-eq0
+returns-then-task-eq0 c =
+    let z = c.if-task-eq0.true in
+    record { unasked = λ e. refl; sound = λ n t. absurd (n z); unsound = λ n t. absurd (n z) }
+
+-- the bench is not sound
+pub returns-then-number-ne0 : goal.returns-then-number-ne0
+unfolding FORM BYTES WORDS ROWS LINKS
+returns-then-number-ne0 c =
+    let tested = c.before in
+    let s = saving tested.before in
+    let bench = (begun s).args.bench in
+    let number = tested.before.save_number-number.ensures in
+    record {
+      unasked = λ e. absurd (s.before.before.if-task-eq0.left e);
+      sound = λ n t. absurd (tested.if-number-ne0.true (number ∙ sound_saved bench buffer room s.save-saving.result s.save-saving.ensures t));
+      unsound = λ n t. refl;
+    }
+
+pub named-requires : goal.named-requires
+unfolding FORM BYTES WORDS ROWS LINKS
+named-requires c κs =
+    let tested = c.before in
+    let s = saving tested.before in
+    let z = sym tested.before.save_number-number.ensures ∙ tested.if-number-ne0.false in
+    form_saved (begun s).args.bench buffer room s.save-saving.result s.save-saving.ensures (many_bytes (begun s)) (many_words (begun s)) z
+
+-- the bench is saved, or a file fails
+pub returns : goal.returns
+unfolding FORM BYTES WORDS ROWS LINKS
+returns c =
+    let tested = c.before.before in
+    let s = saving tested.before in
+    let bench = (begun s).args.bench in
+    let z = sym tested.before.save_number-number.ensures ∙ tested.if-number-ne0.false in
+    record {
+      unasked = λ e. absurd (s.before.before.if-task-eq0.left e);
+      sound = λ n t. c.named.ensures;
+      unsound = λ n t. let x = unsound_refused bench buffer room s.save-saving.result s.save-saving.ensures t in absurd (omega arith);
+    }

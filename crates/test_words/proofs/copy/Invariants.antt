@@ -1,0 +1,11 @@
+-- `test_words::copy` is safe and ends: it passes each byte of the group once. Assumes nothing.
+use mathlib.Core.Path.{◌≡◌}
+use Prim.Native.Nat.{◌-◌, ◌/◌}
+use lib.ListN.{length}
+use Rattle.test_words.proofs.copy.Given as goal
+
+abbrev pub invariant-loop-k : goal.invariant-loop-k
+invariant-loop-k l = (l.initial.out ≡ length l.group / 2) × (length l.out ≡ length l.at)
+
+abbrev pub decreases-loop-k : goal.decreases-loop-k
+decreases-loop-k l = l.initial.out - l.k

@@ -1,0 +1,13 @@
+-- `test_words::minus` meets its contract: each exit is a case of the test. Assumes nothing.
+use borrow.Author.Tests.{le-leb, lt-leb}
+use Rattle.test_words.specs.Words.{pick}
+use Rattle.test_words.specs.Numbers.{WRONG, minus}
+use Rattle.test_words.proofs.minus.Goals as goal
+
+unfolding minus pick
+
+pub returns-then-v-gt-WRONG : goal.returns-then-v-gt-WRONG
+returns-then-v-gt-WRONG c = rw (lt-leb _ WRONG c.if-v-gt-WRONG.true)
+
+pub returns : goal.returns
+returns c = rw (le-leb _ WRONG c.if-v-gt-WRONG.false)

@@ -1,0 +1,7 @@
+-- The two tests are those of the definition. Assumes nothing.
+use Rattle.model.specs.Requests.{barred}
+use Rattle.wake_rules.proofs.bars.Goals as goal
+
+pub returns : goal.returns
+unfolding barred
+returns c = let depth = c.before in rw (c.either.ensures, ← depth.before.error.ensures, ← depth.depth.ensures)
