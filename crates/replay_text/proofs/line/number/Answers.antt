@@ -12,5 +12,5 @@ returns c =
     let x = written.before.before.args.x in
     let d = written.decimal-k in
     let small : x < 2 ^ 64 = search rules in
-    let e = d.ensures.1.1 ∙ decimal_digits d.result x small d.ensures.1.0 in
+    let e = d.ensures.digits ∙ decimal_digits d.result x small d.ensures.len in
     c.word.ensures ∙ rw e

@@ -31,7 +31,7 @@ pub loop-i-init : goal.loop-i-init
 loop-i-init c =
     let start = c.before.before.before in
     let g = start.well_formed.0 in
-    (omega arith, omega arith, (search rules), paste-zero start.args.line.bytes-1 start.args.line.used start.args.text.now)
+    (omega arith, omega arith, (search rules), paste-zero start.args.line.bytes start.args.line.used start.args.text.now)
 
 pub loop-i-preserved : goal.loop-i-preserved
 loop-i-preserved c =
@@ -39,9 +39,9 @@ loop-i-preserved c =
     let start = head.before.before.before.before.args in
     let at = head.loop-i in
     let l = at.invariant.2 in
-    let h : start.line.used + at.i < length start.line.bytes-1 = omega arith in
+    let h : start.line.used + at.i < length start.line.bytes = omega arith in
     let m : at.i < length start.text.now = omega arith in
-    let pasted = paste-suc start.line.bytes-1 start.line.used start.text.now at.i 0 h m in
+    let pasted = paste-suc start.line.bytes start.line.used start.text.now at.i 0 h m in
     (omega arith, omega arith, at.invariant.2, rw (at.invariant.3, add-one at.i) pasted)
 
 -- the word is copied

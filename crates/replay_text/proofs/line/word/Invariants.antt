@@ -6,7 +6,7 @@ use lib.Seq.{paste}
 use Rattle.replay_text.proofs.line.word.Given as goal
 
 abbrev pub invariant-loop-i : goal.invariant-loop-i
-invariant-loop-i l = (l.i ≤ length l.text) × (l.initial.bytes + length l.text ≤ 256) × (length l.used ≡ 256) × (l.bytes ≡ paste l.used l.initial.bytes l.text l.i)
+invariant-loop-i l = (l.i ≤ length l.text) × (l.used + length l.text ≤ 256) × (length l.initial.bytes ≡ 256) × (l.bytes ≡ paste l.initial.bytes l.used l.text l.i)
 
 abbrev pub decreases-loop-i : goal.decreases-loop-i
 decreases-loop-i l = length l.text - l.i

@@ -9,22 +9,6 @@ use Rattle.replay_text.specs.Sizes.{size_after, size_of}
 use Rattle.replay_text.proofs.Reading.{turn_on, turn_stop, left_none, size_large, size_none, size_end}
 use Rattle.replay_text.proofs.size.read.Goals as goal
 
--- the turn at which a digit was read, and the text
-abbrev head_of : goal.Else-d-gt9 → goal.At-loop-i
-head_of c = c.before.before.before.before
-
-abbrev text_of : goal.Else-d-gt9 → List ℕ
-text_of c = (head_of c).before.before.args.text.now
-
--- the digit is taken into the value
-taken : (c : goal.Else-d-gt9) →
-    let at = (head_of c).loop-i in
-    size_after (10 * at.value + c.before.digit-d.result) (drop (at.i + 1) (text_of c)) ≡ size_of (text_of c)
-taken c =
-    let read = c.before in
-    let at = (head_of c).loop-i in
-    turn_on (text_of c) at.i at.value read.before.before.loop-i-test.true read.digit-d.ensures c.if-d-gt9.false ∙ at.inv.2
-
 pub loop-i-init : goal.loop-i-init
 unfolding size_of
 loop-i-init c = (omega arith, omega arith, refl)
@@ -42,11 +26,17 @@ returns-then-d-gt9 c =
 -- the value is too great
 pub returns-then-value-gt-MOST : goal.returns-then-value-gt-MOST
 returns-then-value-gt-MOST c =
-    let digit = c.before in
-    sym (size_large _ (drop ((head_of digit).loop-i.i + 1) (text_of digit)) c.if-value-gt-MOST.true) ∙ taken digit
+    let text = c.args.text.now in
+    let at = c.loop-i in
+    sym (size_large _ (drop (at.i + 1) text) c.if-value-gt-MOST.true)
+    ∙ turn_on text at.i at.value c.loop-i-test.true c.digit-d.ensures c.if-d-gt9.false ∙ at.invariant.2
 
+-- the digit is taken into the value
 pub loop-i-preserved : goal.loop-i-preserved
-loop-i-preserved c = (omega arith, c.if-value-gt-MOST.false, taken c.before)
+loop-i-preserved c =
+    let at = c.loop-i in
+    let turned = turn_on c.args.text.now at.i at.value c.loop-i-test.true c.digit-d.ensures c.if-d-gt9.false in
+    (omega arith, c.if-value-gt-MOST.false, turned ∙ at.invariant.2)
 
 -- no digit, or zeros alone
 pub returns-then-value-eq0 : goal.returns-then-value-eq0
