@@ -1,8 +1,8 @@
 -- Both exits by the definition. Assumes nothing.
--- the first holds
 use Rattle.model.specs.Logic.{◌and◌}
 use Rattle.basics.proofs.both.Goals as goal
 
+-- the first holds
 pub returns-then-a : goal.returns-then-a
 unfolding ◌and◌
 returns-then-a c = rw c.if-a.true

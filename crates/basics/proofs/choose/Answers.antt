@@ -1,8 +1,8 @@
 -- Both exits by the definition. Assumes nothing.
--- the test holds
 use Rattle.model.specs.Logic.{if◌then◌else◌}
 use Rattle.basics.proofs.choose.Goals as goal
 
+-- the test holds
 pub returns-then-test : goal.returns-then-test
 unfolding if◌then◌else◌
 returns-then-test c = rw c.if-test.true

@@ -1,8 +1,8 @@
 -- Both exits by the definition. Assumes nothing.
--- the first holds
 use Rattle.model.specs.Logic.{◌or◌}
 use Rattle.basics.proofs.either.Goals as goal
 
+-- the first holds
 pub returns-then-a : goal.returns-then-a
 unfolding ◌or◌
 returns-then-a c = rw c.if-a.true

@@ -1,5 +1,4 @@
 -- `c_bench::asked` meets its contract: each arm gives the answer to the question of its number. Assumes nothing.
--- status
 use mathlib.Core.Path.{ap, sym, ◌∙◌}
 use native.Mathlib.Omega.{arith}
 use Rattle.model.specs.Logic.{if◌then◌else◌}
@@ -8,41 +7,41 @@ use Rattle.c_calls.specs.Questions.{ask}
 use Rattle.c_calls.proofs.Asking.{ask_past}
 use Rattle.c_bench.proofs.asked.Goals as goal
 
+-- status
 pub returns-in-0 : goal.returns-in-0
 unfolding ask if◌then◌else◌
-returns-in-0 c = rw c.before.before.in-0.keys1 (c.status_code.ensures ∙ ap told_code c.before.status_of.ensures)
+returns-in-0 c = rw c.in-0.is (c.status_code.ensures ∙ ap told_code c.status_of.ensures)
 
 -- use count
 pub returns-in-1 : goal.returns-in-1
 unfolding ask if◌then◌else◌
-returns-in-1 c = rw c.before.before.in-0.keys2 (c.number_code.ensures ∙ ap told_code c.before.usage_count.ensures)
+returns-in-1 c = rw c.in-1.is (c.number_code.ensures ∙ ap told_code c.usage_count.ensures)
 
 -- child count
 pub returns-in-2 : goal.returns-in-2
 unfolding ask if◌then◌else◌
-returns-in-2 c = rw c.before.before.in-0.keys3 (c.number_code-in-2.ensures ∙ ap told_code c.before.child_count.ensures)
+returns-in-2 c = rw c.in-2.is (c.number_code-in-2.ensures ∙ ap told_code c.child_count.ensures)
 
 -- user holds
 pub returns-in-3 : goal.returns-in-3
 unfolding ask if◌then◌else◌
-returns-in-3 c = rw c.before.before.in-0.keys4 (c.number_code-in-3.ensures ∙ ap told_code c.before.user_holds.ensures)
+returns-in-3 c = rw c.in-3.is (c.number_code-in-3.ensures ∙ ap told_code c.user_holds.ensures)
 
 -- a member of the wake set
 pub returns-in-4 : goal.returns-in-4
 unfolding ask if◌then◌else◌
-returns-in-4 c = rw c.before.before.in-0.keys5 (c.member_code.ensures ∙ ap told_code c.before.in_wake_set.ensures)
+returns-in-4 c = rw c.in-4.is (c.member_code.ensures ∙ ap told_code c.in_wake_set.ensures)
 
 -- parents above
 pub returns-in-5 : goal.returns-in-5
 unfolding ask if◌then◌else◌
-returns-in-5 c = rw c.before.before.in-0.keys6 (c.number_code-in-5.ensures ∙ ap told_code c.before.parents_above.ensures)
+returns-in-5 c = rw c.in-5.is (c.number_code-in-5.ensures ∙ ap told_code c.parents_above.ensures)
 
 -- any other question
 pub returns-in_default : goal.returns-in_default
 returns-in_default c =
-    let m = c.before in
-    let args = m.before.args in
-    let r = m.in-0.rest in
+    let args = c.args in
+    let r = c.in-0.rest in
     let n0 = r.0.0.0.0.0.1 in
     let n1 = r.0.0.0.0.1 in
     let n2 = r.0.0.0.1 in

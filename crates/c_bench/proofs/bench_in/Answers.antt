@@ -1,6 +1,5 @@
 -- `c_bench::bench_in` meets its contract: too few bytes begin with no saved state, else what was read is judged as restoring judges it.
 -- Assumes nothing.
--- too few bytes
 use mathlib.Core.Path.{sym, ap, ◌∙◌}
 use Rattle.model.specs.Limits.{ROWS, LINKS}
 use Rattle.model.specs.State.{State}
@@ -12,18 +11,16 @@ use Rattle.c_calls.specs.Bytes.{bench_in}
 use Rattle.c_calls.proofs.Beginning.{bench_in_lem, bench_short}
 use Rattle.c_bench.proofs.bench_in.Goals as goal
 
+-- too few bytes
 pub returns-then-state-lt-FORM : goal.returns-then-state-lt-FORM
 unfolding FORM BYTES WORDS ROWS LINKS
 returns-then-state-lt-FORM c =
-    let start = c.before.before.before in
-    let short = bench_short start.args.state.now c.before.if-state-lt-FORM.true in
+    let short = bench_short c.args.state.now c.if-state-lt-FORM.true in
     record { judged = ap (λ (s : State). (judged_of s).state) c.empty.ensures ∙ judged_empty ∙ sym short }
 
 -- read
 pub returns : goal.returns
 unfolding FORM BYTES WORDS ROWS LINKS restore_of bench_in
 returns c =
-    let done = c.before.before in
-    let read = done.read-cells in
-    let start = done.before.before.before.before in
-    record { judged = read_judged _ read.result read.ensures ∙ sym (bench_in_lem start.args.state.now) }
+    let read = c.read in
+    record { judged = read_judged _ read.result read.ensures ∙ sym (bench_in_lem c.args.state.now) }

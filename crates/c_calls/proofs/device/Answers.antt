@@ -1,10 +1,10 @@
 -- `c_calls::device` meets its contract. Assumes nothing.
--- one that a byte can name
 use borrow.Author.Tests.{lt-ltb, le-ltb}
 use Rattle.model.specs.Logic.{if◌then◌else◌}
 use Rattle.c_calls.specs.Numbers.{device_of}
 use Rattle.c_calls.proofs.device.Goals as goal
 
+-- one that a byte can name
 pub returns-then-part-lt255 : goal.returns-then-part-lt255
 unfolding device_of if◌then◌else◌
 returns-then-part-lt255 c = rw (lt-ltb _ _ c.if-part-lt255.true)

@@ -4,12 +4,13 @@ use Prim.Native.Nat.{◌<◌}
 use Rattle.c_calls.specs.Numbers.{RANGE}
 use Rattle.c_calls.proofs.Results.{less_fits, less_is}
 use Rattle.c_calls.proofs.refused.Goals as goal
+use Rattle.c_calls.proofs.refused.Goals.{Start}
 
-byte : (c : goal.Start) → c.args.number < RANGE
+byte : (c : Start) → c.args.number < RANGE
 byte c = let f = c.ranges.number.fits in omega arith
 
 pub returns : goal.returns
-returns c = less_is c.args.number (byte c)
+returns c = less_is c.args.number (byte (goal.at.returns c).Start
 
 pub overflow_sub-result : goal.overflow_sub-result
-overflow_sub-result c = less_fits c.args.number (byte c)
+overflow_sub-result c = less_fits c.args.number (byte (goal.at.overflow_sub-result c).Start

@@ -2,4 +2,4 @@
 use Rattle.c_host.proofs.keep.Goals as goal
 
 pub returns : goal.returns
-returns c = c.before.before.write.ensures
+returns c = c.write.ensures

@@ -6,10 +6,7 @@ use Rattle.c_host.proofs.keeper_ask.Goals as goal
 
 pub returns : goal.returns
 returns c =
-    let ask = c.before in
-    let devices = ask.before in
-    let first = devices.before in
-    let bench = first.before.bench_in in
-    let args = first.before.before.before.args in
+    let bench = c.bench_in in
+    let args = c.args in
     to_z-of_z (record { sfits = c.signed.type-inv }) ∙ c.signed.ensures
-    ∙ rw (ask.asked.ensures, devices.device-2.ensures, first.device.ensures) (asked_as _ _ bench.ensures.judged args.question args.part args.second)
+    ∙ rw (c.asked.ensures, c.device-2.ensures, c.device.ensures) (asked_as _ _ bench.ensures.judged args.question args.part args.second)

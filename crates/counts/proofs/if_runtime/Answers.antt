@@ -1,8 +1,8 @@
 -- Both exits by the definition. Assumes nothing.
--- it is a runtime link
 use Rattle.model.specs.Logic.{if◌then◌else◌}
 use Rattle.counts.proofs.if_runtime.Goals as goal
 
+-- it is a runtime link
 pub returns-then-runtime : goal.returns-then-runtime
 unfolding if◌then◌else◌
 returns-then-runtime c = rw c.if-runtime.true

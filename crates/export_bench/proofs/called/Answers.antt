@@ -5,56 +5,56 @@ use Rattle.export_bench.proofs.called.Goals as goal
 
 pub returns-in-1 : goal.returns-in-1
 unfolding method_of methods
-returns-in-1 c = rw c.before.in-1.keys1 c.enable.ensures
+returns-in-1 c = rw c.in-1.is c.enable.ensures
 
 pub returns-in-2 : goal.returns-in-2
 unfolding method_of methods
-returns-in-2 c = rw c.before.in-1.keys2 c.disable.ensures
+returns-in-2 c = rw c.in-2.is c.disable.ensures
 
 pub returns-in-3 : goal.returns-in-3
 unfolding method_of methods
-returns-in-3 c = rw c.before.in-1.keys3 c.get.ensures
+returns-in-3 c = rw c.in-3.is c.get.ensures
 
 pub returns-in-4 : goal.returns-in-4
 unfolding method_of methods
-returns-in-4 c = rw c.before.in-1.keys4 c.get_wake.ensures
+returns-in-4 c = rw c.in-4.is c.get_wake.ensures
 
 pub returns-in-5 : goal.returns-in-5
 unfolding method_of methods
-returns-in-5 c = rw c.before.in-1.keys5 c.put.ensures
+returns-in-5 c = rw c.in-5.is c.put.ensures
 
 pub returns-in-6 : goal.returns-in-6
 unfolding method_of methods
-returns-in-6 c = rw c.before.in-1.keys6 c.put_idle.ensures
+returns-in-6 c = rw c.in-6.is c.put_idle.ensures
 
 pub returns-in-7 : goal.returns-in-7
 unfolding method_of methods
-returns-in-7 c = rw c.before.in-1.keys7 c.idle.ensures
+returns-in-7 c = rw c.in-7.is c.idle.ensures
 
 pub returns-in-8 : goal.returns-in-8
 unfolding method_of methods
-returns-in-8 c = rw c.before.in-1.keys8 c.suspend.ensures
+returns-in-8 c = rw c.in-8.is c.suspend.ensures
 
 pub returns-in-9 : goal.returns-in-9
 unfolding method_of methods
-returns-in-9 c = rw c.before.in-1.keys9 c.wake.ensures
+returns-in-9 c = rw c.in-9.is c.wake.ensures
 
 pub returns-in-10 : goal.returns-in-10
 unfolding method_of methods
-returns-in-10 c = rw c.before.in-1.keys10 c.set_active.ensures
+returns-in-10 c = rw c.in-10.is c.set_active.ensures
 
 pub returns-in-11 : goal.returns-in-11
 unfolding method_of methods
-returns-in-11 c = rw c.before.in-1.keys11 c.set_suspended.ensures
+returns-in-11 c = rw c.in-11.is c.set_suspended.ensures
 
 pub returns-in-12 : goal.returns-in-12
 unfolding method_of methods
-returns-in-12 c = rw c.before.in-1.keys12 c.ignore_children.ensures
+returns-in-12 c = rw c.in-12.is c.ignore_children.ensures
 
 -- any other kind
 pub returns-in_default : goal.returns-in_default
 unfolding Passed
 returns-in_default c =
-    let args = c.before.before.args in
-    let r = c.before.in-1.rest in
+    let args = c.args in
+    let r = c.in-1.rest in
     rw (last_called args.kind args.p args.v (λ l. past args.kind 1 12 l r)) c.result.ensures

@@ -8,29 +8,28 @@ use Rattle.export_bench.proofs.tests_ask.Goals as goal
 
 pub returns-in-0 : goal.returns-in-0
 unfolding asked_of answers_about
-returns-in-0 c = rw c.before.before.in-0.keys1 (c.status_code.ensures ∙ ap told_code c.before.status_of.ensures)
+returns-in-0 c = rw c.in-0.is (c.status_code.ensures ∙ ap told_code c.status_of.ensures)
 
 pub returns-in-1 : goal.returns-in-1
 unfolding asked_of answers_about
-returns-in-1 c = rw c.before.before.in-0.keys2 (c.number_code.ensures ∙ ap told_code c.before.user_holds.ensures)
+returns-in-1 c = rw c.in-1.is (c.number_code.ensures ∙ ap told_code c.user_holds.ensures)
 
 pub returns-in-2 : goal.returns-in-2
 unfolding asked_of answers_about
-returns-in-2 c = rw c.before.before.in-0.keys3 (c.number_code-in-2.ensures ∙ ap told_code c.before.usage_count.ensures)
+returns-in-2 c = rw c.in-2.is (c.number_code-in-2.ensures ∙ ap told_code c.usage_count.ensures)
 
 pub returns-in-3 : goal.returns-in-3
 unfolding asked_of answers_about
-returns-in-3 c = rw c.before.before.in-0.keys4 (c.number_code-in-3.ensures ∙ ap told_code c.before.child_count.ensures)
+returns-in-3 c = rw c.in-3.is (c.number_code-in-3.ensures ∙ ap told_code c.child_count.ensures)
 
 pub returns-in-4 : goal.returns-in-4
 unfolding asked_of answers_about
-returns-in-4 c = rw c.before.before.in-0.keys5 (c.number_code-in-4.ensures ∙ ap told_code c.before.parents_above.ensures)
+returns-in-4 c = rw c.in-4.is (c.number_code-in-4.ensures ∙ ap told_code c.parents_above.ensures)
 
 -- the wake set
 pub returns-in_default : goal.returns-in_default
 unfolding Passed
 returns-in_default c =
-    let m = c.before.before in
-    let args = m.before.before.before.args in
-    let far = past args.question 0 5 (omega arith) m.in-0.rest in
-    rw (last_asked _ args.question args.p args.q far) (c.member_code.ensures ∙ ap told_code c.before.in_wake_set.ensures)
+    let args = c.args in
+    let far = past args.question 0 5 (omega arith) c.in-0.rest in
+    rw (last_asked _ args.question args.p args.q far) (c.member_code.ensures ∙ ap told_code c.in_wake_set.ensures)

@@ -7,7 +7,7 @@ use Rattle.export_bench.proofs.tests_request.Goals as goal
 
 pub returns : goal.returns
 returns c =
-    let done = c.before.before.before.before.called-done.ensures.is in
+    let done = c.called-done.ensures.is in
     record {
       code = c.outcome_code.ensures ∙ ap (λ (q : Requested). q.number + packed q.reply) done;
       state = ap (λ (q : Requested). q.state) done;

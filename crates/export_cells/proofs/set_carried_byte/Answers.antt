@@ -1,14 +1,13 @@
 -- `export_cells::set_carried_byte` meets its contract. Assumes nothing.
--- no such byte
 use native.Mathlib.Omega.{arith}
 use Rattle.export_cells.proofs.Fields.{carried_same}
 use Rattle.export_cells.proofs.set_carried_byte.Goals as goal
 
+-- no such byte
 pub returns-then-i-ge3 : goal.returns-then-i-ge3
 returns-then-i-ge3 c = λ words long. carried_same _ words _ _ (omega arith)
 
 -- one of the three
 pub returns : goal.returns
 returns c =
-    let read = c.before.before in
-    λ words long. rw (read.carry-carried.ensures words long, read.before.before.used-used.ensures words) at (c.set_carried.ensures words long)
+    λ words long. rw (c.carry-carried.ensures words long, c.used-used.ensures words) at (c.set_carried.ensures words long)

@@ -2,4 +2,4 @@
 use Rattle.export_cells.proofs.set_used.Goals as goal
 
 pub returns : goal.returns
-returns c = λ words long. rw (c.before.before.carry-carried.ensures words long) at (c.set_carried.ensures words long)
+returns c = λ words long. rw (c.carry-carried.ensures words long) at (c.set_carried.ensures words long)

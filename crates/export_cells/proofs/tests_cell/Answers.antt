@@ -1,35 +1,28 @@
 -- `export_cells::tests_cell` meets its contract: the page read is the field's. Assumes nothing.
--- a page of bytes of the devices
 use mathlib.Core.Path.{◌∙◌}
 use native.Mathlib.Omega.{arith}
 use Rattle.export_cells.proofs.Fields.{byte_cell, link_cell, word_cell, number_cell, no_cell}
 use Rattle.export_cells.proofs.tests_cell.Goals as goal
 
+-- a page of bytes of the devices
 pub returns-then-field-lt5 : goal.returns-then-field-lt5
 returns-then-field-lt5 c =
-    let read = c.before in
-    let start = read.before.before in
-    byte_cell _ _ _ _ (omega arith) (rw start.wide-i.ensures at (c.word8.ensures ∙ read.byte_at.ensures))
+    byte_cell _ _ _ _ (omega arith) (rw c.wide-i.ensures at (c.word8.ensures ∙ c.byte_at.ensures))
 
 -- a page of the links
 pub returns-then-field-lt8 : goal.returns-then-field-lt8
 returns-then-field-lt8 c =
-    let read = c.before in
-    let start = read.before.before.before in
-    link_cell _ _ _ _ (omega arith) (omega arith) (rw start.wide-i.ensures at (c.word8-then-field-lt8.ensures ∙ read.link_at.ensures))
+    link_cell _ _ _ _ (omega arith) (omega arith) (rw c.wide-i.ensures at (c.word8-then-field-lt8.ensures ∙ c.link_at.ensures))
 
 -- a page of words
 pub returns-then-field-lt11 : goal.returns-then-field-lt11
 returns-then-field-lt11 c =
-    let start = c.before.before.before.before in
-    word_cell _ _ _ _ (omega arith) (omega arith) (rw start.wide-i.ensures at c.word_at.ensures)
+    word_cell _ _ _ _ (omega arith) (omega arith) (rw c.wide-i.ensures at c.word_at.ensures)
 
 -- the numbers of the whole bench
 pub returns-then-field-lt12 : goal.returns-then-field-lt12
 returns-then-field-lt12 c =
-    let numbers = c.before in
-    let start = numbers.before.before.before.before in
-    number_cell _ _ _ _ (omega arith) (omega arith) (rw start.wide-i.ensures at c.number_at.ensures)
+    number_cell _ _ _ _ (omega arith) (omega arith) (rw c.wide-i.ensures at c.number_at.ensures)
 
 -- no such field
 pub returns : goal.returns

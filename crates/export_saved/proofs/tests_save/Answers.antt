@@ -1,13 +1,13 @@
 -- `export_saved::tests_save` meets its contract, by that of `save`. Assumes nothing.
--- the one exit
 use mathlib.Core.Path.{ap, ◌∙◌}
 use Rattle.saved_form.specs.Saving.{Saved}
 use Rattle.export_saved.proofs.tests_save.Goals as goal
 
+-- the one exit
 pub returns : goal.returns
 returns c =
-    let saved = c.before.before.before.before.save-answer.ensures in
+    let saved = c.save-answer.ensures in
     record {
-      number = c.word8.ensures ∙ (c.before.save_number.ensures ∙ ap (λ (s : Saved). s.number) saved);
+      number = c.word8.ensures ∙ (c.save_number.ensures ∙ ap (λ (s : Saved). s.number) saved);
       buffer = ap (λ (s : Saved). s.buffer) saved;
     }

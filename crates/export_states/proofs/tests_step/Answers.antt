@@ -4,6 +4,4 @@ use Rattle.export_states.proofs.tests_step.Goals as goal
 
 pub returns : goal.returns
 returns c =
-    let stepped = c.before in
-    let start = stepped.before.before.before.before in
-    step_is stepped.step-reply.result start.index-first.ensures.is stepped.step-reply.ensures c.pack.ensures
+    step_is c.step-reply.result c.index-first.ensures.is c.step-reply.ensures c.pack.ensures

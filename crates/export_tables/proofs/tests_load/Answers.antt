@@ -1,11 +1,11 @@
 -- `export_tables::tests_load` meets its contract, by those of `load` and `code`. Assumes nothing.
--- the one exit
 use mathlib.Core.Path.{ap, ◌∙◌}
 use Rattle.model.specs.State.{Loaded}
 use Rattle.export_tables.specs.Loads.{coded}
 use Rattle.export_tables.proofs.tests_load.Goals as goal
 
+-- the one exit
 pub returns : goal.returns
 returns c =
-    let loaded = c.before.before.before.before.load-loaded.ensures in
+    let loaded = c.load-loaded.ensures in
     record { code = c.load_code.ensures ∙ ap (λ (l : Loaded). coded l.answer) loaded; state = ap (λ (l : Loaded). l.state) loaded }

@@ -1,11 +1,11 @@
 -- `export_tables::tests_write` meets its contract, by those of `write` and `write_code`. Assumes nothing.
--- the one exit
 use mathlib.Core.Path.{ap, ◌∙◌}
 use Rattle.model.specs.Writing.{Writing}
 use Rattle.export_tables.specs.Loads.{coded}
 use Rattle.export_tables.proofs.tests_write.Goals as goal
 
+-- the one exit
 pub returns : goal.returns
 returns c =
-    let written = c.before.before.before.write-outcome.ensures in
+    let written = c.write-outcome.ensures in
     record { code = c.write_code.ensures ∙ ap (λ (w : Writing). coded w.answer) written; buffer = ap (λ (w : Writing). w.buffer) written }

@@ -3,4 +3,4 @@ use Rattle.export_wakes.proofs.Indexing.{wake_set_is}
 use Rattle.export_wakes.proofs.tests_wake_set.Goals as goal
 
 pub returns : goal.returns
-returns c = wake_set_is c.before.before.index-first.ensures.is c.wake_set.ensures
+returns c = wake_set_is c.index-first.ensures.is c.wake_set.ensures

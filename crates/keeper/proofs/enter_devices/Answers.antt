@@ -10,20 +10,16 @@ pub loop-p-init : goal.loop-p-init
 loop-p-init c = (omega arith, no_devices _ _)
 
 pub loop-p-preserved : goal.loop-p-preserved
-loop-p-preserved c =
-    let i = c.before.before in
-    let p = i.before.before.before in
-    let l = p.before.before.before.before in (
-      omega arith,
-      one_device _ _ _ _ _ _ _ _ _ _ l.loop-p.invariant.1 p.before.device_byte.ensures p.set_parent.ensures i.before.device_byte-in-loop-p.ensures
-          i.set_ignore.ensures refl c.set_depth.ensures,
-    )
+loop-p-preserved c = (
+  omega arith,
+  one_device _ _ _ _ _ _ _ _ _ _ c.loop-p.invariant.1 c.device_byte.ensures c.set_parent.ensures c.device_byte-in-loop-p.ensures
+      c.set_ignore.ensures refl c.set_depth.ensures,
+)
 
 pub returns : goal.returns
 returns c =
-    let l = c.before in
-    let e : l.loop-p.p ≡ l.before.byte_at-n.result = omega arith in
-    (rw (e, l.before.byte_at-n.ensures) at l.loop-p.invariant.1).are
+    let e : c.loop-p.p ≡ c.byte_at-n.result = omega arith in
+    (rw (e, c.byte_at-n.ensures) at c.loop-p.invariant.1).are
 
 pub overflow_add-p : goal.overflow_add-p
 overflow_add-p c = omega arith

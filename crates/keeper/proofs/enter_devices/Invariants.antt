@@ -5,7 +5,7 @@ use Rattle.keeper.proofs.Entries.{Devices}
 use Rattle.keeper.proofs.enter_devices.Given as goal
 
 abbrev pub invariant-loop-p : goal.invariant-loop-p
-invariant-loop-p l = (l.p ≤ l.initial.bytes) × Devices l.n l.p l.t l.bytes
+invariant-loop-p l = (l.p ≤ l.n) × Devices l.t l.p l.initial.bytes l.bytes
 
 abbrev pub decreases-loop-p : goal.decreases-loop-p
-decreases-loop-p l = l.initial.bytes - l.p
+decreases-loop-p l = l.n - l.p

@@ -10,20 +10,16 @@ pub loop-i-init : goal.loop-i-init
 loop-i-init c = (omega arith, no_links _ _)
 
 pub loop-i-preserved : goal.loop-i-preserved
-loop-i-preserved c =
-    let p = c.before.before.before in
-    let q = p.before.before.before in
-    let l = q.before.before.before.before in (
-      omega arith,
-      one_link _ _ _ _ _ _ _ _ _ _ l.loop-i.invariant.1 q.before.link_byte.ensures q.set_consumer.ensures p.before.link_byte-in-loop-i.ensures
-          p.set_supplier.ensures c.before.link_byte-in-loop-i-2.ensures c.set_flags.ensures,
-    )
+loop-i-preserved c = (
+  omega arith,
+  one_link _ _ _ _ _ _ _ _ _ _ c.loop-i.invariant.1 c.link_byte.ensures c.set_consumer.ensures c.link_byte-in-loop-i.ensures
+      c.set_supplier.ensures c.link_byte-in-loop-i-2.ensures c.set_flags.ensures,
+)
 
 pub returns : goal.returns
 returns c =
-    let l = c.before in
-    let e : l.loop-i.i ≡ l.before.byte_at-m.result = omega arith in
-    (rw (e, l.before.byte_at-m.ensures) at l.loop-i.invariant.1).are
+    let e : c.loop-i.i ≡ c.byte_at-m.result = omega arith in
+    (rw (e, c.byte_at-m.ensures) at c.loop-i.invariant.1).are
 
 pub overflow_add-i : goal.overflow_add-i
 overflow_add-i c = omega arith

@@ -5,7 +5,7 @@ use Rattle.keeper.proofs.Entries.{Links}
 use Rattle.keeper.proofs.enter_links.Given as goal
 
 abbrev pub invariant-loop-i : goal.invariant-loop-i
-invariant-loop-i l = (l.i ≤ l.initial.bytes) × Links l.m l.i l.t l.bytes
+invariant-loop-i l = (l.i ≤ l.m) × Links l.t l.i l.initial.bytes l.bytes
 
 abbrev pub decreases-loop-i : goal.decreases-loop-i
-decreases-loop-i l = l.initial.bytes - l.i
+decreases-loop-i l = l.m - l.i

@@ -6,19 +6,17 @@ use Rattle.model.specs.Limits.{LINKS, ROWS}
 use Rattle.memory.specs.Layout.{BYTES, WORDS}
 use borrow.Author.Rules.{rules}
 use Rattle.keeper.proofs.feed.Goals as goal
+use Rattle.keeper.proofs.feed.Goals.{Start}
 
-many_bytes : (c : goal.Start) → length c.args.bench.bytes-1 ≡ BYTES
+many_bytes : (c : Start) → length c.args.bench.bytes ≡ BYTES
 unfolding BYTES ROWS LINKS
 many_bytes c = let g = c.well_formed.0 in search rules
 
-many_words : (c : goal.Start) → length c.args.bench.words-1 ≡ WORDS
+many_words : (c : Start) → length c.args.bench.words ≡ WORDS
 unfolding WORDS ROWS
 many_words c = let g = c.well_formed.0 in search rules
 
 -- the one exit
 pub returns : goal.returns
 returns c =
-    let fed = c.before.before in
-    let copied = fed.before.before.before.before in
-    let start = copied.before.before.before.before in
-    sym (fed.feed-answer.ensures.is (many_bytes start) (many_words start))
+    sym (c.feed-answer.ensures.is (many_bytes (goal.at.returns c).Start (many_words (goal.at.returns c).Start)

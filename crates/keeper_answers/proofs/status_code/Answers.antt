@@ -1,16 +1,16 @@
 -- `keeper_answers::status_code` meets its contract: a refusal's number, or 256 times the value. Assumes nothing.
--- a bench that is not sound
 use mathlib.Core.Path.{sym}
 use native.Mathlib.Nat.{zero-add}
 use Rattle.keeper_answers.proofs.status_code.Goals as goal
 
+-- a bench that is not sound
 pub returns-in-Unsound : goal.returns-in-Unsound
-returns-in-Unsound c = rw c.enum_told-1.given.1
+returns-in-Unsound c = rw c.in-Unsound.is
 
 -- an unknown device
 pub returns-in-Unknown : goal.returns-in-Unknown
-returns-in-Unknown c = rw c.enum_told-in-Unknown-1.given.1
+returns-in-Unknown c = rw c.in-Unknown.is
 
 -- what is told
 pub returns-in-Is : goal.returns-in-Is
-returns-in-Is c = rw (c.before.before.before.answer-1.given.1, c.long8.ensures, c.before.status_number.ensures) (sym (zero-add _))
+returns-in-Is c = rw (c.in-Is.is, c.long8.ensures, c.status_number.ensures) (sym (zero-add _))

@@ -3,4 +3,4 @@ use Rattle.keeper_answers.proofs.Checks.{last_told}
 use Rattle.keeper_answers.proofs.tell_member.Goals as goal
 
 pub returns-in-Passed : goal.returns-in-Passed
-returns-in-Passed c = last_told c.before.before.args.check c.before.in-Unsound.keys3 _
+returns-in-Passed c = last_told c.args.check c.in-Passed.is _

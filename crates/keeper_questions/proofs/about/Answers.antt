@@ -3,5 +3,4 @@ use Rattle.keeper_questions.proofs.about.Goals as goal
 
 pub returns : goal.returns
 returns c =
-    let d = c.before.before in
-    rw (c.before.knows.ensures, d.devices.ensures d.before.before.before.args.t1.words) at c.checked.ensures
+    rw (c.knows.ensures, c.devices.ensures c.args.t1.words) at c.checked.ensures

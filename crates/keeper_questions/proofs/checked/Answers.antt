@@ -7,15 +7,15 @@ use Rattle.keeper_questions.proofs.checked.Goals as goal
 
 pub returns-then-not-sound : goal.returns-then-not-sound
 unfolding told if◌then◌else◌
-returns-then-not-sound c = record { tells = λ v w f. rw (failed c.before.sound.ensures.test c.if-not-sound.true-raw) }
+returns-then-not-sound c = record { tells = λ v w f. rw (failed c.sound.ensures.test c.if-not-sound.true-raw) }
 
 pub returns-then-not-known : goal.returns-then-not-known
 unfolding told if◌then◌else◌
-returns-then-not-known c = record { tells = λ v w f. rw (passed c.before.before.sound.ensures.test c.before.if-not-sound.false-raw, c.if-not-known.true-raw) }
+returns-then-not-known c = record { tells = λ v w f. rw (passed c.sound.ensures.test c.if-not-sound.false-raw, c.if-not-known.true-raw) }
 
 pub returns : goal.returns
 unfolding told if◌then◌else◌
 returns c =
-    let e = passed c.before.before.sound.ensures.test c.before.if-not-sound.false-raw in
-    let h = c.before.before.sound.ensures.sound (not-false _ c.before.if-not-sound.false-raw) in
+    let e = passed c.sound.ensures.test c.if-not-sound.false-raw in
+    let h = c.sound.ensures.sound (not-false _ c.if-not-sound.false-raw) in
     record { tells = λ v w f. rw (e, c.if-not-known.false-raw, f h (not-false _ c.if-not-known.false-raw)) }

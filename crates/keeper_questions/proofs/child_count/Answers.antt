@@ -5,6 +5,4 @@ use Rattle.keeper_questions.proofs.child_count.Goals as goal
 
 pub returns : goal.returns
 returns c =
-    let r = c.before.before in
-    let a = r.before.before.before in
-    answered a.about-check.ensures c.tell_number.ensures (λ s k. c.before.word8.ensures ∙ r.children.ensures a.before.args.t1.words)
+    answered c.about-check.ensures c.tell_number.ensures (λ s k. c.word8.ensures ∙ c.children.ensures c.args.t1.words)

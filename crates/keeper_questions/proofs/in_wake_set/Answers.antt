@@ -10,13 +10,10 @@ use Rattle.keeper_questions.proofs.in_wake_set.Goals as goal
 pub returns : goal.returns
 unfolding in_wake
 returns c =
-    let w = c.before in
-    let i = w.before.before.before.before in
-    let a = i.before.before.before.before in
-    let b = a.before.args.t1 in
-    answered a.about_both-check.ensures c.tell_member.ensures
+    let b = c.args.t1 in
+    answered c.about_both-check.ensures c.tell_member.ensures
     (λ s k.
     let o = s.kept.table.order in
-    let listed : Listed (state_of b).wiring i.index-first.result = record { order = o; index = i.index-first.ensures.is o.links } in
+    let listed : Listed (state_of b).wiring c.index-first.result = record { order = o; index = c.index-first.ensures.is o.links } in
     let known = simp tests at k in
-    rw (w.wake_set-marks.ensures.is b.words listed known.0))
+    rw (c.wake_set-marks.ensures.is b.words listed known.0))

@@ -10,4 +10,4 @@ returns-then-n-p c = rw (le-leb _ _ c.if-n-p.true)
 
 pub returns : goal.returns
 unfolding ◌or◌
-returns c = let a = c.before.args in rw (lt-leb _ _ c.if-n-p.false) (below a.q a.n)
+returns c = let a = c.args in rw (lt-leb _ _ c.if-n-p.false) (below a.q a.n)

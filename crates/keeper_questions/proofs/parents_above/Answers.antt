@@ -6,7 +6,5 @@ use Rattle.keeper_questions.proofs.parents_above.Goals as goal
 
 pub returns : goal.returns
 returns c =
-    let r = c.before.before in
-    let a = r.before.before.before in
-    answered a.about-check.ensures c.tell_number.ensures
-    (λ s k. c.before.word8.ensures ∙ r.parents_above.ensures.is a.before.args.t1.words s.kept.table.order (simp tests at k))
+    answered c.about-check.ensures c.tell_number.ensures
+    (λ s k. c.word8.ensures ∙ c.parents_above.ensures.is c.args.t1.words s.kept.table.order (simp tests at k))

@@ -8,8 +8,6 @@ use Rattle.keeper_questions.proofs.status_of.Goals as goal
 
 pub returns : goal.returns
 returns c =
-    let r = c.before.before in
-    let a = r.before.before.before in
-    let e = r.status.ensures a.before.args.t1.words in
-    answered a.about-check.ensures c.tell_status.ensures
-    (λ s k. let u = s.kept.statuses.used a.before.args.device (simp tests at k) in c.before.status_from.ensures ∙ four _ (omega arith) ∙ e)
+    let e = c.status.ensures c.args.t1.words in
+    answered c.about-check.ensures c.tell_status.ensures
+    (λ s k. let u = s.kept.statuses.used c.args.device (simp tests at k) in c.status_from.ensures ∙ four _ (omega arith) ∙ e)

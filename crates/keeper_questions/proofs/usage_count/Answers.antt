@@ -10,10 +10,7 @@ use Rattle.keeper_questions.proofs.usage_count.Goals as goal
 pub returns : goal.returns
 unfolding LINKS
 returns c =
-    let u = c.before.before in
-    let h = u.before.before.before.before in
-    let a = h.before.before.before in
-    let bytes = a.before.args.t1.bytes in
-    let e = rw (h.holds.ensures bytes, u.before.linked.ensures bytes) at u.usage-uses.ensures in
-    answered a.about-check.ensures c.tell_number.ensures
-    (λ s k. let l = usage_low s a.before.args.device (simp tests at k) in c.before.number64.ensures (omega arith) ∙ e)
+    let bytes = c.args.t1.bytes in
+    let e = rw (c.holds.ensures bytes, c.linked.ensures bytes) at c.usage-uses.ensures in
+    answered c.about-check.ensures c.tell_number.ensures
+    (λ s k. let l = usage_low s c.args.device (simp tests at k) in c.number64.ensures (omega arith) ∙ e)

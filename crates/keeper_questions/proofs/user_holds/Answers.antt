@@ -4,5 +4,4 @@ use Rattle.keeper_questions.proofs.user_holds.Goals as goal
 
 pub returns : goal.returns
 returns c =
-    let a = c.before.before.before.before in
-    answered a.about-check.ensures c.tell_number.ensures (λ s k. c.before.holds.ensures a.before.args.t1.bytes)
+    answered c.about-check.ensures c.tell_number.ensures (λ s k. c.holds.ensures c.args.t1.bytes)

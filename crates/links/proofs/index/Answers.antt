@@ -10,13 +10,12 @@ use Rattle.links.proofs.index.Goals as goal
 pub returns-then-many-gt-LINKS : goal.returns-then-many-gt-LINKS
 unfolding LINKS ROWS
 returns-then-many-gt-LINKS c =
-    let counted = c.before in
-    let e = counted.links-many.ensures counted.before.args.bytes.now in
+    let e = c.links-many.ensures c.args.bytes.now in
     record { is = λ l. let z = c.if-many-gt-LINKS.true in absurd (omega arith); past = λ l. refl }
 
 pub tallies-first-requires : goal.tallies-first-requires
 unfolding LINKS
-tallies-first-requires c κs = let z = c.if-many-gt-LINKS.false in omega arith
+tallies-first-requires c = let z = c.if-many-gt-LINKS.false in omega arith
 
 pub loop-p-init : goal.loop-p-init
 loop-p-init c = summed_none _ _ _ (c.tallies-first.ensures _)
@@ -24,24 +23,19 @@ loop-p-init c = summed_none _ _ _ (c.tallies-first.ensures _)
 pub overflow_add-next-in-loop-p : goal.overflow_add-next-in-loop-p
 unfolding LINKS
 overflow_add-next-in-loop-p c =
-    let turn = c.before in
-    let few = turn.before.before in
-    let z = sum_fits _ _ turn.loop-p.p turn.loop-p.first turn.loop-p.invariant c.loop-p-test.true in
-    let l = few.if-many-gt-LINKS.false in
+    let z = sum_fits _ _ c.loop-p.p c.loop-p.first c.loop-p.invariant c.loop-p-test.true in
+    let l = c.if-many-gt-LINKS.false in
     omega arith
 
 pub loop-p-preserved : goal.loop-p-preserved
-loop-p-preserved c = summed_more _ _ c.before.loop-p.p c.before.loop-p.first c.before.loop-p.invariant c.loop-p-test.true
+loop-p-preserved c = summed_more _ _ c.loop-p.p c.loop-p.first c.loop-p.invariant c.loop-p-test.true
 
 -- every row is counted up
 pub returns : goal.returns
 unfolding LINKS
 returns c =
-    let ended = c.before in
-    let few = ended.before.before in
-    let counted = few.before in
-    let e = counted.links-many.ensures counted.before.args.bytes.now in
+    let e = c.links-many.ensures c.args.bytes.now in
     record {
-      is = λ l. summed_all _ ended.loop-p.p ended.loop-p.first (rw e at ended.loop-p.invariant) (let z = c.loop-p-test.false in omega arith);
-      past = λ l. let z = few.if-many-gt-LINKS.false in absurd (omega arith);
+      is = λ l. summed_all _ c.loop-p.p c.loop-p.first (rw e at c.loop-p.invariant) (let z = c.loop-p-test.false in omega arith);
+      past = λ l. let z = c.if-many-gt-LINKS.false in absurd (omega arith);
     }

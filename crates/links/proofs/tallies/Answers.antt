@@ -1,5 +1,6 @@
 -- `links::tallies` meets its contract. The invariant: the links passed are counted. Assumes nothing.
 use mathlib.Core.Path.{◌≡◌}
+use mathlib.Core.List.{[]}
 use Prim.Native.Nat.{◌-◌}
 use native.Mathlib.Omega.{arith}
 use Rattle.model.specs.Limits.{LINKS}
@@ -11,14 +12,13 @@ loop-i-init c = (omega arith, λ words. tallied_none _)
 
 pub consumer-requires : goal.consumer-requires
 unfolding LINKS
-consumer-requires c κs = omega arith
+consumer-requires c = omega arith
 
 pub overflow_add-next : goal.overflow_add-next
 unfolding LINKS
 overflow_add-next c =
-    let a = c.before.before.before in
     let l = c.after-at.ensures.1 in
-    let z = tallied_fits _ a.loop-i.i a.loop-i.first c.after-at.result (a.loop-i.invariant.1 []) (omega arith) in
+    let z = tallied_fits _ c.loop-i.i c.loop-i.first c.after-at.result (c.loop-i.invariant.1 []) (omega arith) in
     omega arith
 
 pub overflow_add-i : goal.overflow_add-i
@@ -27,14 +27,12 @@ overflow_add-i c = omega arith
 
 pub loop-i-preserved : goal.loop-i-preserved
 loop-i-preserved c =
-    let read = c.before in
-    let turn = read.before.before in
     let next = c.after-at.ensures in (
       omega arith,
       λ words.
-          tallied_more _ turn.loop-i.i turn.loop-i.first _ c.after-at.result (turn.loop-i.invariant.1 words) (read.consumer.ensures words) next.0 next.1,
+          tallied_more _ c.loop-i.i c.loop-i.first _ c.after-at.result (c.loop-i.invariant.1 words) (c.consumer.ensures words) next.0 next.1,
     )
 
 -- every link is counted
 pub returns : goal.returns
-returns c = λ words. let e : c.before.loop-i.i ≡ c.before.before.args.many = omega arith in rw e at (c.before.loop-i.invariant.1 words)
+returns c = λ words. let e : c.loop-i.i ≡ c.args.many = omega arith in rw e at (c.loop-i.invariant.1 words)

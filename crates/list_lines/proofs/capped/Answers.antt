@@ -4,10 +4,10 @@ use Rattle.model.specs.Logic.{if◌then◌else◌}
 use Rattle.list_lines.specs.Numbers.{capped}
 use Rattle.list_lines.proofs.capped.Goals as goal
 
-unfolding capped if◌then◌else◌
-
 pub returns-then-x-gt255 : goal.returns-then-x-gt255
+unfolding capped if◌then◌else◌
 returns-then-x-gt255 c = rw (lt-leb _ 255 c.if-x-gt255.true)
 
 pub returns : goal.returns
+unfolding capped if◌then◌else◌
 returns c = rw (le-leb _ 255 c.if-x-gt255.false)

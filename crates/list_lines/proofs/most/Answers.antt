@@ -1,11 +1,11 @@
 -- `list_lines::most` meets its contract: each exit is a case of the test. Assumes nothing.
--- the second
 use native.Mathlib.Omega.{arith}
 use borrow.Author.Tests.{le-leb, lt-leb}
 use Rattle.model.specs.Logic.{if◌then◌else◌}
 use Rattle.list_lines.specs.Numbers.{most}
 use Rattle.list_lines.proofs.most.Goals as goal
 
+-- the second
 pub returns-then-a-b : goal.returns-then-a-b
 unfolding most if◌then◌else◌
 returns-then-a-b c = record { is = rw (le-leb _ _ c.if-a-b.true); first = omega arith; second = omega arith }

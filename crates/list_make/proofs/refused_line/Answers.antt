@@ -1,5 +1,4 @@
 -- `list_make::refused_line` meets its contract: 6 stands in the line of its device, 7 in that of its link. Assumes nothing.
--- 6
 use mathlib.Core.Path.{◌∙◌, ap}
 use Prim.Native.Nat.{ℕ}
 use Rattle.list_text.specs.Texts.{line_number}
@@ -7,21 +6,20 @@ use mathlib.Core.Bool.{true, false}
 use Rattle.list_make.proofs.Telling.{in_device, in_link, in_neither}
 use Rattle.list_make.proofs.refused_line.Goals as goal
 
+-- 6
 pub returns-in-6 : goal.returns-in-6
 returns-in-6 c =
-    let w = c.before in
-    let a = w.before.before.before.args in
-    in_device a.text.now a.number a.index w.before.in-6.keys1 (c.Line-of.ensures ∙ ap (λ (k : ℕ). line_number false a.text.now k) w.wide.ensures)
+    let a = c.args in
+    in_device a.text.now a.number a.index c.in-6.is (c.Line-of.ensures ∙ ap (λ (k : ℕ). line_number false a.text.now k) c.wide.ensures)
 
 -- 7
 pub returns-in-7 : goal.returns-in-7
 returns-in-7 c =
-    let w = c.before in
-    let a = w.before.before.before.args in
-    in_link a.text.now a.number a.index w.before.in-6.keys2 (c.line_of-in-7.ensures ∙ ap (λ (k : ℕ). line_number true a.text.now k) w.wide-in-7.ensures)
+    let a = c.args in
+    in_link a.text.now a.number a.index c.in-7.is (c.line_of-in-7.ensures ∙ ap (λ (k : ℕ). line_number true a.text.now k) c.wide-in-7.ensures)
 
 -- any other
 pub returns-in_default : goal.returns-in_default
 returns-in_default c =
-    let n = c.before.in-6.rest in
+    let n = c.in-6.rest in
     in_neither _ _ _ n.0.1 n.1 c.over_line.ensures

@@ -8,12 +8,9 @@ use Rattle.list_print.proofs.link_line.Goals as goal
 pub returns : goal.returns
 unfolding ascii link_words link_text
 returns c =
-    let flags = c.before.before in
-    let supplier = flags.before.before.before in
-    let consumer = supplier.before.before.before in
-    let args = consumer.before.before.before.before.args in
-    let h0 = holds_start consumer.before.before.before.start.ensures in
-    let h1 = holds_field (ascii "link ") args.consumer h0 consumer.before.long8.ensures consumer.field-from.ensures (omega arith) in
-    let h2 = holds_field (ascii " ") args.supplier h1 supplier.before.long8-2.ensures supplier.field-to.ensures (omega arith) in
-    let h3 = holds_field (ascii " ") args.flags h2 flags.before.long8-3.ensures flags.field.ensures (omega arith) in
+    let args = c.args in
+    let h0 = holds_start c.start.ensures in
+    let h1 = holds_field (ascii "link ") args.consumer h0 c.long8.ensures c.field-from.ensures (omega arith) in
+    let h2 = holds_field (ascii " ") args.supplier h1 c.long8-2.ensures c.field-to.ensures (omega arith) in
+    let h3 = holds_field (ascii " ") args.flags h2 c.long8-3.ensures c.field.ensures (omega arith) in
     (holds_word (ascii "\n") h3 c.word.ensures (omega arith)).line

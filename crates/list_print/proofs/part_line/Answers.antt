@@ -9,11 +9,8 @@ use Rattle.list_print.proofs.part_line.Goals as goal
 pub returns : goal.returns
 unfolding ascii part_words part_text
 returns c =
-    let flags = c.before.before in
-    let parent = flags.before.before.before in
-    let named = parent.before in
-    let args = named.before.before.before.args in
-    let h1 = holds_word (ascii "part ") (holds_start named.before.before.start.ensures) named.word.ensures (omega arith) in
-    let h2 = holds_within (parent_text args.parent) 20 (parent_short args.parent) h1 parent.parent_word-placed.ensures (omega arith) in
-    let h3 = holds_field (ascii " ") args.flags h2 flags.before.long8.ensures flags.field.ensures (omega arith) in
+    let args = c.args in
+    let h1 = holds_word (ascii "part ") (holds_start c.start.ensures) c.word.ensures (omega arith) in
+    let h2 = holds_within (parent_text args.parent) 20 (parent_short args.parent) h1 c.parent_word-placed.ensures (omega arith) in
+    let h3 = holds_field (ascii " ") args.flags h2 c.long8.ensures c.field.ensures (omega arith) in
     (holds_word (ascii "\n") h3 c.word-2.ensures (omega arith)).line

@@ -4,5 +4,4 @@ use Rattle.list_program.proofs.device.Goals as goal
 
 pub returns : goal.returns
 returns c =
-    let b = c.before in
-    device_told _ _ c.part_line.ensures b.before.device_byte.ensures b.device_byte-2.ensures
+    device_told _ _ c.part_line.ensures c.device_byte.ensures c.device_byte-2.ensures

@@ -7,4 +7,4 @@ use Rattle.list_report.proofs.long.Goals as goal
 
 pub returns : goal.returns
 unfolding ascii long_text
-returns c = (holds_word (ascii "list too long\n") (holds_start c.before.before.start.ensures) c.word.ensures (omega arith)).line
+returns c = (holds_word (ascii "list too long\n") (holds_start c.start.ensures) c.word.ensures (omega arith)).line

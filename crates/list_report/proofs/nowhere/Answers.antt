@@ -9,10 +9,7 @@ use Rattle.list_report.proofs.nowhere.Goals as goal
 pub returns : goal.returns
 unfolding ascii nowhere_text
 returns c =
-    let index = c.before.before in
-    let number = index.before.before in
-    let start = number.before.before in
-    let a = start.before.args in
-    let g = holds_field (ascii "refused ") a.number (holds_start start.start.ensures) refl number.field-numbered.ensures (omega arith) in
-    let k = holds_field (ascii " ") a.index g refl index.field.ensures (omega arith) in
+    let a = c.args in
+    let g = holds_field (ascii "refused ") a.number (holds_start c.start.ensures) refl c.field-numbered.ensures (omega arith) in
+    let k = holds_field (ascii " ") a.index g refl c.field.ensures (omega arith) in
     (holds_word (ascii "\n") k c.word.ensures (omega arith)).line

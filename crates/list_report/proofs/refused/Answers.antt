@@ -9,12 +9,8 @@ use Rattle.list_report.proofs.refused.Goals as goal
 pub returns : goal.returns
 unfolding ascii refused_text
 returns c =
-    let line = c.before.before in
-    let index = line.before.before in
-    let number = index.before.before in
-    let start = number.before.before in
-    let a = start.before.args in
-    let g = holds_field (ascii "refused ") a.number (holds_start start.start.ensures) refl number.field-numbered.ensures (omega arith) in
-    let k = holds_field (ascii " ") a.index g refl index.field-indexed.ensures (omega arith) in
-    let l = holds_field (ascii " line ") a.line k refl line.field.ensures (omega arith) in
+    let a = c.args in
+    let g = holds_field (ascii "refused ") a.number (holds_start c.start.ensures) refl c.field-numbered.ensures (omega arith) in
+    let k = holds_field (ascii " ") a.index g refl c.field-indexed.ensures (omega arith) in
+    let l = holds_field (ascii " c ") a.line k refl c.field.ensures (omega arith) in
     (holds_word (ascii "\n") l c.word.ensures (omega arith)).line

@@ -9,7 +9,5 @@ use Rattle.list_report.proofs.wrong.Goals as goal
 pub returns : goal.returns
 unfolding ascii wrong_text
 returns c =
-    let field = c.before.before in
-    let start = field.before.before in
-    let g = holds_field (ascii "line ") start.before.args.line (holds_start start.start.ensures) refl field.field.ensures (omega arith) in
+    let g = holds_field (ascii "line ") c.args.line (holds_start c.start.ensures) refl c.field.ensures (omega arith) in
     (holds_word (ascii ": neither a part nor a link\n") g c.word.ensures (omega arith)).line

@@ -5,35 +5,29 @@ use native.Mathlib.Omega.{arith}
 use Rattle.list_text.proofs.Numbering.{faulting_start, faulting_more, faulting_large, faulting_wrong, faulting_none}
 use Rattle.list_text.proofs.fault_in.Goals as goal
 
--- where the loop stands as a line is read
-abbrev head_of : goal.After-line_at-line → goal.At-loop-start
-head_of c = c.before.before
-
 -- a number over 255
 pub returns-in-Large : goal.returns-in-Large
 returns-in-Large c =
-    let read = c.before.before in
-    faulting_large (head_of read).loop-start.invariant read.line_at_lem.ensures c.enum_told-1.given.1
+    faulting_large c.loop-start.invariant c.line_at_lem.ensures c.in-Large.is
 
 -- another sort of line
 pub returns-in-Wrong : goal.returns-in-Wrong
 returns-in-Wrong c =
-    let read = c.before.before in
-    faulting_wrong (head_of read).loop-start.invariant read.line_at_lem.ensures c.enum_told-in-Wrong-1.given.1
+    faulting_wrong c.loop-start.invariant c.line_at_lem.ensures c.in-Wrong.is
 
 -- a line of a list
 pub loop-start-preserved : goal.loop-start-preserved
-loop-start-preserved c = let read = c.before in faulting_more (head_of read).loop-start.invariant read.line_at_lem.ensures c.in-Large.keys3
+loop-start-preserved c = faulting_more c.loop-start.invariant c.line_at_lem.ensures c.in_default.is
 
 -- the end of the text
 pub returns : goal.returns
-returns c = faulting_none c.before.loop-start.invariant c.loop-start-test.false
+returns c = faulting_none c.loop-start.invariant c.loop-start-test.false
 
 pub loop-start-init : goal.loop-start-init
 loop-start-init c = faulting_start _
 
 pub line_at-line-requires : goal.line_at-line-requires
-line_at-line-requires c κs = c.loop-start-test.true
+line_at-line-requires c = c.loop-start-test.true
 
 pub overflow_add-number : goal.overflow_add-number
 overflow_add-number c = omega arith

@@ -8,25 +8,23 @@ use Rattle.list_text.proofs.gather.Goals as goal
 -- one line more
 pub loop-start-preserved : goal.loop-start-preserved
 loop-start-preserved c =
-    let put = c.before.before in
-    let read = put.before.before in
-    gathering_more read.before.before.loop-start.invariant read.line_at_lem.ensures put.put_entry-at.ensures
+    gathering_more c.loop-start.invariant c.line_at_lem.ensures c.put_entry-at.ensures
 
 -- the end of the text
 pub returns : goal.returns
-returns c = gathering_end c.before.loop-start.invariant c.loop-start-test.false
+returns c = gathering_end c.loop-start.invariant c.loop-start-test.false
 
 pub loop-start-init : goal.loop-start-init
 loop-start-init c = gathering_start _ _ _
 
 pub line_at-line-requires : goal.line_at-line-requires
-line_at-line-requires c κs = c.loop-start-test.true
+line_at-line-requires c = c.loop-start-test.true
 
 pub put_entry-at-requires : goal.put_entry-at-requires
-put_entry-at-requires c κs = omega arith
+put_entry-at-requires c = omega arith
 
 pub loop-start-smaller : goal.loop-start-smaller
 loop-start-smaller c = omega arith
 
 pub shape_of-out : goal.shape_of-out
-shape_of-out c = c.before.loop-start.invariant.long
+shape_of-out c = c.loop-start.invariant.long

@@ -10,32 +10,27 @@ use Rattle.list_text.proofs.line_of.Goals as goal
 -- the entry
 pub returns-then-ahead-eq0 : goal.returns-then-ahead-eq0
 returns-then-ahead-eq0 c =
-    let tested = c.before in
-    let sorted = tested.before in
-    let read = sorted.before in
-    looking_here read.before.before.loop-start.invariant read.line_at_lem.ensures (sym sorted.is_of.ensures ∙ tested.if-is_of.true) c.if-ahead-eq0.true
+    looking_here c.loop-start.invariant c.line_at_lem.ensures (sym c.is_of.ensures ∙ c.if-is_of.true) c.if-ahead-eq0.true
 
 -- an entry ahead of it, or a line with none of the sort
 pub loop-start-preserved : goal.loop-start-preserved
 loop-start-preserved c =
-    let sorted = c.before in
-    let read = sorted.before in
-    let inv = read.before.before.loop-start.invariant in
-    let sort = sym sorted.is_of.ensures in
+    let inv = c.loop-start.invariant in
+    let sort = sym c.is_of.ensures in
     ⊎_elim
-    (λ w. rw w.2 (looking_past inv read.line_at_lem.ensures (sort ∙ w.0.taken) w.1.left))
-    (λ w. rw w.1 (looking_on inv read.line_at_lem.ensures (sort ∙ w.0.left)))
+    (λ w. rw w.2 (looking_past inv c.line_at_lem.ensures (sort ∙ w.0.taken) w.1.left))
+    (λ w. rw w.1 (looking_on inv c.line_at_lem.ensures (sort ∙ w.0.left)))
     c.if-is_of.branch
 
 -- the end of the text
 pub returns : goal.returns
-returns c = looking_none c.before.loop-start.invariant c.loop-start-test.false
+returns c = looking_none c.loop-start.invariant c.loop-start-test.false
 
 pub loop-start-init : goal.loop-start-init
 loop-start-init c = looking_start _ _ _
 
 pub line_at-line-requires : goal.line_at-line-requires
-line_at-line-requires c κs = c.loop-start-test.true
+line_at-line-requires c = c.loop-start-test.true
 
 pub overflow_sub-ahead : goal.overflow_sub-ahead
 overflow_sub-ahead c = omega arith

@@ -1,8 +1,8 @@
 -- `list_text::put` meets its contract: a store past the end changes nothing. Assumes nothing.
--- no room
 use mathlib.Core.Path.{sym}
 use lib.Seq.{set_out}
 use Rattle.list_text.proofs.put.Goals as goal
 
+-- no room
 pub returns-else-at-out : goal.returns-else-at-out
-returns-else-at-out c = let given = c.before.args in sym (set_out given.out.now given.at given.byte c.if-at-out.false)
+returns-else-at-out c = let given = c.args in sym (set_out given.out.now given.at given.byte c.if-at-out.false)

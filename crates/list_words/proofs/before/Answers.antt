@@ -4,8 +4,8 @@ use lib.Seq.{length-take-le}
 use Rattle.list_words.proofs.before.Goals as goal
 
 pub slice_bounds-result-end : goal.slice_bounds-result-end
-slice_bounds-result-end c = sym (length-take-le _ _ c.before.scan-n.ensures.inside)
+slice_bounds-result-end c = sym (length-take-le _ _ c.scan-n.ensures.inside)
 
 -- the one exit
 pub returns : goal.returns
-returns c = c.before.scan-n.ensures.front
+returns c = c.scan-n.ensures.front

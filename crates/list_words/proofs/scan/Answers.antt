@@ -7,19 +7,15 @@ use Rattle.list_words.proofs.scan.Goals as goal
 -- it stops at a byte
 pub returns-then-stops : goal.returns-then-stops
 returns-then-stops c =
-    let asked = c.before in
-    let turn = asked.before.before in
-    scanned_here turn.before.loop-i.invariant turn.loop-i-test.true (sym asked.stops.ensures ∙ c.if-stops.true)
+    scanned_here c.loop-i.invariant c.loop-i-test.true (sym c.stops.ensures ∙ c.if-stops.true)
 
 pub loop-i-preserved : goal.loop-i-preserved
 loop-i-preserved c =
-    let asked = c.before in
-    let turn = asked.before.before in
-    passed_on turn.before.loop-i.invariant turn.loop-i-test.true (sym asked.stops.ensures ∙ c.if-stops.false)
+    passed_on c.loop-i.invariant c.loop-i-test.true (sym c.stops.ensures ∙ c.if-stops.false)
 
 -- it stops at the end
 pub returns : goal.returns
-returns c = scanned_end c.before.loop-i.invariant c.loop-i-test.false
+returns c = scanned_end c.loop-i.invariant c.loop-i-test.false
 
 pub loop-i-init : goal.loop-i-init
 loop-i-init c = passed_none _ _

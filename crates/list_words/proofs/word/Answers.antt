@@ -12,16 +12,13 @@ loop-left-init c = rw c.before-rest.ensures
 
 pub loop-left-preserved : goal.loop-left-preserved
 loop-left-preserved c =
-    let turn = c.before.before in
-    let at = turn.before.loop-left in
-    rw (c.from-rest.ensures, c.before.from-here.ensures) (word_next at.rest.now at.left turn.loop-left-test.true) ∙ at.invariant
+    let at = c.loop-left in
+    rw (c.from-rest.ensures, c.from-here.ensures) (word_next at.rest.now at.left c.loop-left-test.true) ∙ at.invariant
 
 -- no word is left to be passed
 pub returns : goal.returns
 unfolding word_at
 returns c =
-    let here = c.before in
-    let ended = here.before in
-    let at = ended.before.loop-left in
+    let at = c.loop-left in
     let none : at.left ≡ 0 = omega arith in
-    c.before-2.ensures ∙ rw here.from.ensures (rw none at at.invariant)
+    c.before-2.ensures ∙ rw c.from.ensures (rw none at at.invariant)

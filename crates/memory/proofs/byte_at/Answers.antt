@@ -1,5 +1,4 @@
 -- `memory::byte_at` meets its contract: a column has no row outside its page, and row p of a page is the cell read. Assumes nothing.
--- no such page
 use mathlib.Core.Path.{sym}
 use native.Mathlib.Omega.{arith}
 use Rattle.model.specs.Limits.{ROWS}
@@ -7,6 +6,7 @@ use Rattle.memory.specs.Layout.{BYTEPAGES, byte_col}
 use Rattle.memory.proofs.Pages.{no_row, device_page, device_row, device_read}
 use Rattle.memory.proofs.byte_at.Goals as goal
 
+-- no such page
 pub returns-then-page-ge-BYTEPAGES : goal.returns-then-page-ge-BYTEPAGES
 unfolding ROWS
 returns-then-page-ge-BYTEPAGES c = no_row (byte_col _ _) _ (device_page _ _ BYTEPAGES _ (omega arith))

@@ -1,5 +1,4 @@
 -- `memory::word_at` meets its contract: a column has no row outside its page, and row p of a page is the cell read. Assumes nothing.
--- no such page
 use mathlib.Core.Path.{sym}
 use native.Mathlib.Omega.{arith}
 use Rattle.model.specs.Limits.{ROWS}
@@ -7,6 +6,7 @@ use Rattle.memory.specs.Layout.{WORDPAGES, word_col}
 use Rattle.memory.proofs.Pages.{no_row, device_page, device_row, device_read}
 use Rattle.memory.proofs.word_at.Goals as goal
 
+-- no such page
 pub returns-then-page-ge-WORDPAGES : goal.returns-then-page-ge-WORDPAGES
 unfolding ROWS
 returns-then-page-ge-WORDPAGES c = no_row (word_col _ _) _ (device_page _ _ WORDPAGES _ (omega arith))

@@ -7,18 +7,13 @@ use Rattle.record_feed.proofs.take_piece.Goals as goal
 
 pub returns : goal.returns
 returns c =
-    let answered = c.before.before.before.before in
-    let lent = answered.before.before.before in
-    let cleared = lent.before in
-    let held = cleared.before.before in
-    let start = held.before.before.before.before in
     record {
       is = λ i h u.
           let cells = long _ _ (ready h) in
-          took (state_in start.args.bytes.now start.args.words.now) h (held.carry-held.ensures _ cells) u start.args.piece.now
+          took (state_in c.args.bytes.now c.args.words.now) h (c.carry-held.ensures _ cells) u c.args.piece.now
           (i.is h.kept.table.order.links)
-          (cleared.set_carried.ensures _ cells)
-          (answered.answer_piece-left.ensures.is start.requires).is
-          (answered.answer_piece-left.ensures.left start.requires)
+          (c.set_carried.ensures _ cells)
+          (c.answer_piece-left.ensures.is c.requires).is
+          (c.answer_piece-left.ensures.left c.requires)
           (λ d. c.set_carried-2.ensures _ (long _ _ (ready d.sound)));
     }

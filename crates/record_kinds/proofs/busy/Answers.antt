@@ -1,5 +1,4 @@
 -- The constant table is the model's column; past its end the model has a plain kind. Assumes nothing.
--- none is open
 use Rattle.model.specs.Logic.{◌and◌}
 use mathlib.Core.Bool.{false}
 use lib.ListN.{get_or-eq_default}
@@ -9,21 +8,20 @@ use Rattle.record_kinds.specs.Kinds.{always_table}
 use Rattle.record_kinds.proofs.Signs.{always_at}
 use Rattle.record_kinds.proofs.busy.Goals as goal
 
+-- none is open
 pub returns-then-callback-eq0 : goal.returns-then-callback-eq0
 unfolding busy ◌and◌
-returns-then-callback-eq0 c = λ words. rw (← c.before.callback.ensures words, eq-eqb c.before.callback.result-1 0 c.if-callback-eq0.true)
+returns-then-callback-eq0 c = λ words. rw (← c.callback.ensures words, eq-eqb c.callback.result 0 c.if-callback-eq0.true)
 
 -- one is open, and there is no such kind
 pub returns-then-kind-ge-KINDS : goal.returns-then-kind-ge-KINDS
 unfolding busy ◌and◌
 returns-then-kind-ge-KINDS c =
-    let read = c.before.before in
     λ words.
-    rw (← read.callback.ensures words, ne_eqb read.callback.result-1 0 c.before.if-callback-eq0.false, always_at _, get_or-eq_default always_table false c.if-kind-ge-KINDS.true)
+    rw (← c.callback.ensures words, ne_eqb c.callback.result 0 c.if-callback-eq0.false, always_at _, get_or-eq_default always_table false c.if-kind-ge-KINDS.true)
 
 -- one is open
 pub returns : goal.returns
 unfolding busy ◌and◌
 returns c =
-    let read = c.before.before in
-    λ words. rw (← read.callback.ensures words, ne_eqb read.callback.result-1 0 c.before.if-callback-eq0.false, always_at _)
+    λ words. rw (← c.callback.ensures words, ne_eqb c.callback.result 0 c.if-callback-eq0.false, always_at _)

@@ -22,37 +22,29 @@ pub loop-k-init : goal.loop-k-init
 loop-k-init c = let r = c.if-replies-count.false in turning_start (omega arith)
 
 pub record_in-record-requires : goal.record_in-record-requires
-record_in-record-requires c κs =
-    let short = c.before.before.before in
-    (whole_record c.before.loop-k.invariant c.loop-k-test.true, short.if-source-gt-PIECE.false)
+record_in-record-requires c =
+    (whole_record c.loop-k.invariant c.loop-k-test.true, c.if-source-gt-PIECE.false)
 
 pub write_reply-requires : goal.write_reply-requires
-write_reply-requires c κs =
-    let stepped = c.before in
-    let turn = stepped.before.before.before.before in
-    reply_fits turn.before.loop-k.invariant turn.loop-k-test.true
+write_reply-requires c =
+    reply_fits c.loop-k.invariant c.loop-k-test.true
 
 -- one record more
 pub loop-k-preserved : goal.loop-k-preserved
 loop-k-preserved c =
-    let written = c.before.before in
-    let stepped = written.before.before in
-    let read = stepped.before.before.before in
-    let turn = read.before in
-    turning_more turn.before.loop-k.invariant turn.loop-k-test.true (λ h. rw (← read.record_in-record.ensures) (stepped.step-reply.ensures.is h))
-    written.write_reply.ensures
+    turning_more c.loop-k.invariant c.loop-k-test.true (λ h. rw (← c.record_in-record.ensures) (c.step-reply.ensures.is h))
+    c.write_reply.ensures
 
 -- after the last
 pub shape_of-replies : goal.shape_of-replies
-shape_of-replies c = c.before.loop-k.invariant.long
+shape_of-replies c = c.loop-k.invariant.long
 
 pub returns : goal.returns
 returns c =
-    let roomy = c.before.before in
-    let room = roomy.if-replies-count.false in
-    let short = roomy.before.if-source-gt-PIECE.false in
+    let room = c.if-replies-count.false in
+    let short = c.if-source-gt-PIECE.false in
     record {
-      is = λ r. record { is = turning_end c.before.loop-k.invariant c.loop-k-test.false };
+      is = λ r. record { is = turning_end c.loop-k.invariant c.loop-k-test.false };
       untouched = λ n. absurd (n (record { few = omega arith; short = short; room = omega arith }));
     }
 

@@ -6,7 +6,7 @@ use Rattle.record_loop.proofs.answer_records.Given as goal
 
 abbrev pub invariant-loop-k : goal.invariant-loop-k
 invariant-loop-k l =
-    Turning l.count l.initial.bytes l.initial.words l.initial.replies l.k (state_in l.first l.source) (state_in l.bytes l.words) l.replies
+    Turning l.first l.source l.initial.replies l.count l.k (state_in l.initial.bytes l.initial.words) (state_in l.bytes l.words) l.replies
 
 abbrev pub decreases-loop-k : goal.decreases-loop-k
-decreases-loop-k l = l.initial.replies - l.k
+decreases-loop-k l = l.count - l.k

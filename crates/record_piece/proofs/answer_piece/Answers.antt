@@ -1,10 +1,11 @@
 -- Each test is a part of the room that is asked for; past all of them the records are answered and the rest is read off. Assumes nothing.
--- more than three bytes are carried
 use mathlib.Core.Path.{refl}
 use native.Mathlib.Omega.{arith}
 use Rattle.record_loop.specs.Runs.{Room}
 use Rattle.record_piece.proofs.answer_piece.Goals as goal
+use Rattle.record_piece.proofs.answer_piece.Goals.{Else-replies-whole}
 
+-- more than three bytes are carried
 pub returns-then-used-gt3 : goal.returns-then-used-gt3
 returns-then-used-gt3 c =
     let l = c.if-used-gt3.true in
@@ -22,25 +23,17 @@ returns-then-replies-whole c =
     let l = c.if-replies-whole.true in
     record { is = λ r. let room = r.room in absurd (omega arith); left = λ r. let room = r.room in absurd (omega arith); untouched = λ n. (refl, refl, refl) }
 
--- the start, from past the first test
-abbrev begun : goal.Else-used-gt3 → goal.Start
-begun c = c.before.before.before.before
-
 -- the tests passed
-fits : (c : goal.Else-replies-whole) → let start = begun c.before.before in
-    Room start.args.carried.used start.args.piece.now start.args.replies-1.now
+fits : (c : Else-replies-whole) → Room c.args.carried.used c.args.piece.now c.args.replies.now
 fits c =
-    let short = c.before in
-    record { few = short.before.if-used-gt3.false; short = short.if-piece-gt-PIECE.false; room = c.if-replies-whole.false }
+    record { few = c.if-used-gt3.false; c = c.if-piece-gt-PIECE.false; room = c.if-replies-whole.false }
 
 pub answer_all-requires : goal.answer_all-requires
-answer_all-requires c κs = fits c.before.before.before
+answer_all-requires c = fits (goal.at.answer_all-requires c).Else-replies-whole
 
 pub rest-requires : goal.rest-requires
-rest-requires c κs =
-    let answered = c.before.before in
-    let roomy = answered.before.before.before.before in
-    let f = fits roomy in
+rest-requires c =
+    let f = fits (goal.at.rest-requires c).Else-replies-whole in
     let few = f.few in
     let short = f.short in
     record { few = few; near = omega arith }
@@ -48,6 +41,4 @@ rest-requires c κs =
 -- the records are answered
 pub returns : goal.returns
 returns c =
-    let answered = c.before.before.before in
-    let roomy = answered.before.before.before.before in
-    record { is = λ r. answered.answer_all.ensures; left = λ r. c.rest.ensures; untouched = λ n. absurd (n (fits roomy)) }
+    record { is = λ r. c.answer_all.ensures; left = λ r. c.rest.ensures; untouched = λ n. absurd (n (fits (goal.at.returns c).Else-replies-whole) }

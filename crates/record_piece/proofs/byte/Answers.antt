@@ -6,18 +6,17 @@ use lib.ListN.{length}
 use Rattle.record_loop.proofs.Joining.{carried_at, piece_at}
 use borrow.Author.Rules.{rules}
 use Rattle.record_piece.proofs.byte.Goals as goal
+use Rattle.record_piece.proofs.byte.Goals.{Start}
 
-few : (c : goal.Start) → c.args.used ≤ length c.args.t1
+few : (c : Start) → c.args.used ≤ length c.args.t1
 few c = search rules
 
 -- a carried byte
 pub returns-then-i-used : goal.returns-then-i-used
 returns-then-i-used c =
-    let start = c.before.before in
-    carried_at start.args.t1 _ _ (few start) start.args.i c.if-i-used.true
+    carried_at c.args.t1 _ _ (few (goal.at.returns-then-i-used c).Start c.args.i c.if-i-used.true
 
 -- a byte of the piece
 pub returns : goal.returns
 returns c =
-    let start = c.before.before.before in
-    c.byte_at.ensures ∙ piece_at start.args.t1 _ _ (few start) start.args.i _ (let l = c.before.if-i-used.false in omega arith)
+    c.byte_at.ensures ∙ piece_at c.args.t1 _ _ (few (goal.at.returns c).Start c.args.i _ (let l = c.if-i-used.false in omega arith)

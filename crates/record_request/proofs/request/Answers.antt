@@ -1,5 +1,4 @@
 -- One exit for the path of kinds 6, 7 and 8 and one for each other kind: its promise is the model's line of the kind. Assumes nothing.
--- the state at the start, from past the path
 use mathlib.Core.Path.{sym, ◌∙◌}
 use Rattle.model.specs.Logic.{if◌then◌else◌}
 use Rattle.model.specs.State.{State}
@@ -9,78 +8,68 @@ use Rattle.request_hold.proofs.Chained.{enable_stays, disable_stays, get_stays, 
 use Rattle.record_request.proofs.Dispatching.{line_12, sleeping, past, past_sleeping, is_last, last_allowed}
 use Rattle.record_request.proofs.request.Goals as goal
 
-abbrev at-start : goal.Else-both → State
-at-start c = let a = c.before.before.args in state_in a.bytes.now a.words.now
-
 -- kinds 6, 7 and 8
 pub returns-then-both : goal.returns-then-both
 returns-then-both c =
-    let test = c.before.before.before in
-    sleeping (sym test.before.both.ensures ∙ test.if-both.true) c.let_sleep.ensures
+    sleeping (sym c.both.ensures ∙ c.if-both.true) c.let_sleep.ensures
 
 -- enable
 pub returns-in-1 : goal.returns-in-1
 unfolding request if◌then◌else◌
 returns-in-1 c =
-    let done = c.before.enable.ensures in
-    let chosen = c.before.before.before in
-    record { is = λ g h l. rw (chosen.in-1.keys1, c.finished.ensures) (done _); stays = λ f. enable_stays (at-start chosen.before) _ _ _ (done _) }
+    let done = c.enable.ensures in
+    record { is = λ g h l. rw (c.in-1.is, c.finished.ensures) (done _); stays = λ f. enable_stays ((let a = c.args in state_in a.bytes.now a.words.now)) _ _ _ (done _) }
 
 -- disable
 pub returns-in-2 : goal.returns-in-2
 unfolding request if◌then◌else◌
 returns-in-2 c =
-    let done = c.before.disable.ensures in
-    let chosen = c.before.before.before in
-    record { is = λ g h l. rw (chosen.in-1.keys2, c.finished-in-2.ensures) (done _); stays = λ f. disable_stays (at-start chosen.before) _ _ _ (done _) }
+    let done = c.disable.ensures in
+    record { is = λ g h l. rw (c.in-2.is, c.finished-in-2.ensures) (done _); stays = λ f. disable_stays ((let a = c.args in state_in a.bytes.now a.words.now)) _ _ _ (done _) }
 
 -- get
 pub returns-in-3 : goal.returns-in-3
 unfolding request if◌then◌else◌
 returns-in-3 c =
-    let done = c.before.get.ensures in
-    let chosen = c.before.before.before in
-    record { is = λ g h l. rw (chosen.in-1.keys3, c.finished-in-3.ensures) (done _); stays = λ f. get_stays (at-start chosen.before) _ _ _ (done _) }
+    let done = c.get.ensures in
+    record { is = λ g h l. rw (c.in-3.is, c.finished-in-3.ensures) (done _); stays = λ f. get_stays ((let a = c.args in state_in a.bytes.now a.words.now)) _ _ _ (done _) }
 
 -- get and wake
 pub returns-in-4 : goal.returns-in-4
 unfolding request if◌then◌else◌
-returns-in-4 c = record { is = λ g h l. rw c.before.before.before.in-1.keys4 (c.get_wake.ensures.is h l); stays = c.get_wake.ensures.stays }
+returns-in-4 c = record { is = λ g h l. rw c.in-4.is (c.get_wake.ensures.is h l); stays = c.get_wake.ensures.stays }
 
 -- put
 pub returns-in-5 : goal.returns-in-5
 unfolding request if◌then◌else◌
 returns-in-5 c =
-    let done = c.before.put.ensures in
-    let chosen = c.before.before.before in
-    record { is = λ g h l. rw (chosen.in-1.keys5, c.finished-in-5.ensures) (done _); stays = λ f. put_stays (at-start chosen.before) _ _ _ (done _) }
+    let done = c.put.ensures in
+    record { is = λ g h l. rw (c.in-5.is, c.finished-in-5.ensures) (done _); stays = λ f. put_stays ((let a = c.args in state_in a.bytes.now a.words.now)) _ _ _ (done _) }
 
 -- wake
 pub returns-in-9 : goal.returns-in-9
 unfolding request if◌then◌else◌
-returns-in-9 c = record { is = λ g h l. rw c.before.before.before.in-1.keys6 (c.wake.ensures.is h l); stays = c.wake.ensures.stays }
+returns-in-9 c = record { is = λ g h l. rw c.in-9.is (c.wake.ensures.is h l); stays = c.wake.ensures.stays }
 
 -- set active
 pub returns-in-10 : goal.returns-in-10
 unfolding request if◌then◌else◌
-returns-in-10 c = record { is = λ g h l. rw c.before.before.before.in-1.keys7 (c.set_active.ensures.is h l); stays = c.set_active.ensures.stays }
+returns-in-10 c = record { is = λ g h l. rw c.in-10.is (c.set_active.ensures.is h l); stays = c.set_active.ensures.stays }
 
 -- set suspended
 pub returns-in-11 : goal.returns-in-11
 unfolding request if◌then◌else◌
-returns-in-11 c = record { is = λ g h l. rw c.before.before.before.in-1.keys8 (c.set_suspended.ensures.is h l); stays = c.set_suspended.ensures.stays }
+returns-in-11 c = record { is = λ g h l. rw c.in-11.is (c.set_suspended.ensures.is h l); stays = c.set_suspended.ensures.stays }
 
 -- ignore children: none of the other kinds
 pub returns-in_default : goal.returns-in_default
 returns-in_default c =
-    let chosen = c.before.before in
-    let n = chosen.in-1.rest in
-    let slept = chosen.before in
+    let n = c.in-1.rest in
     record {
       is =
           λ g h l.
           let four = past (past (past g.low n.0.0.0.0.0.0.0.1) n.0.0.0.0.0.0.1) n.0.0.0.0.0.1 in
-          let nine = past_sleeping _ (sym slept.before.both.ensures ∙ slept.if-both.false) (past (past four n.0.0.0.0.1) n.0.0.0.1) in
+          let nine = past_sleeping _ (sym c.both.ensures ∙ c.if-both.false) (past (past four n.0.0.0.0.1) n.0.0.0.1) in
           let twelve = is_last _ _ g (past (past (past nine n.0.0.1) n.0.1) n.1) in
           line_12 _ _ _ twelve ∙ (c.ignore_children.ensures.is (last_allowed _ _ g twelve) _).is h.ready.carried;
       stays = λ f. c.ignore_children.ensures.stays _;

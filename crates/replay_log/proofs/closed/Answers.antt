@@ -1,5 +1,4 @@
 -- The end stays, or is a file's failure. Assumes nothing.
--- the file of replies fails, lacks replies, or is complete
 use mathlib.Core.Path.{refl}
 use mathlib.Core.Logic.{inl, inr}
 use Rattle.replay_log.proofs.closed.Goals as goal

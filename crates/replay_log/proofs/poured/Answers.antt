@@ -4,6 +4,4 @@ use Rattle.replay_log.proofs.poured.Goals as goal
 
 pub returns : goal.returns
 returns c =
-    let closed = c.before in
-    let pour = closed.before.before.before.before in
-    went_closed pour.pour-session.ensures c.ended.ensures.0 c.ended.ensures.1 closed.closed.ensures
+    went_closed c.pour-session.ensures c.ended.ensures.0 c.ended.ensures.1 c.closed.ensures

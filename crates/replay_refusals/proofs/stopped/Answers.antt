@@ -9,10 +9,7 @@ use Rattle.replay_refusals.proofs.stopped.Goals as goal
 pub returns : goal.returns
 unfolding ascii stopped_text
 returns c =
-    let field = c.before.before in
-    let wide = field.before in
-    let speaker = wide.before.before in
-    let args = speaker.before.args in
-    let h = holds_speaker args.resumes speaker.speaker.ensures in
-    let g = holds_field (ascii "piece refused ") args.number h wide.long8.ensures field.field.ensures (omega arith) in
+    let args = c.args in
+    let h = holds_speaker args.resumes c.speaker.ensures in
+    let g = holds_field (ascii "piece refused ") args.number h c.long8.ensures c.field.ensures (omega arith) in
     (holds_word (ascii "\n") g c.word.ensures (omega arith)).line

@@ -8,9 +8,6 @@ use Rattle.replay_refusals.proofs.unrestored.Goals as goal
 pub returns : goal.returns
 unfolding ascii unrestored_text
 returns c =
-    let field = c.before.before in
-    let wide = field.before in
-    let start = wide.before.before in
-    let h = holds_start start.start.ensures in
-    let g = holds_field (ascii "state refused ") start.before.args.number h wide.long8.ensures field.field.ensures (omega arith) in
+    let h = holds_start c.start.ensures in
+    let g = holds_field (ascii "state refused ") c.args.number h c.long8.ensures c.field.ensures (omega arith) in
     (holds_word (ascii "\n") g c.word.ensures (omega arith)).line

@@ -1,5 +1,4 @@
 -- `replay_report::callback` meets its contract. Assumes nothing.
--- none open
 use native.Mathlib.Omega.{arith}
 use borrow.Author.Tests.{ne_eqb}
 use Rattle.model.specs.Logic.{if◌then◌else◌}
@@ -8,52 +7,43 @@ use Rattle.replay_report.specs.Lines.{callback_text}
 use Rattle.replay_text.proofs.Adding.{holds_start, holds_word, holds_field}
 use Rattle.replay_report.proofs.callback.Goals as goal
 
+-- none open
 pub returns-in-0 : goal.returns-in-0
 unfolding ascii callback_text if◌then◌else◌
 returns-in-0 c =
-    let h = holds_start c.before.before.start.ensures in
-    rw c.before.before.before.in-0.keys1 (holds_word (ascii "callback none\n") h c.word.ensures (omega arith)).line
+    let h = holds_start c.start.ensures in
+    rw c.in-0.is (holds_word (ascii "callback none\n") h c.word.ensures (omega arith)).line
 
 -- suspend
 pub returns-in-1 : goal.returns-in-1
 unfolding ascii callback_text if◌then◌else◌
 returns-in-1 c =
-    let field = c.before.before in
-    let start = field.before.before.before in
-    let matched = start.before in
-    let h = holds_start start.start-in-1.ensures in
-    let g = holds_field (ascii "callback suspend ") matched.before.args.asked h field.before.long8.ensures field.field.ensures (omega arith) in
-    rw matched.in-0.keys2 (holds_word (ascii "\n") g c.word-in-1.ensures (omega arith)).line
+    let h = holds_start c.start-in-1.ensures in
+    let g = holds_field (ascii "callback suspend ") c.args.asked h c.long8.ensures c.field.ensures (omega arith) in
+    rw c.in-1.is (holds_word (ascii "\n") g c.word-in-1.ensures (omega arith)).line
 
 -- resume
 pub returns-in-2 : goal.returns-in-2
 unfolding ascii callback_text if◌then◌else◌
 returns-in-2 c =
-    let target = c.before.before in
-    let asked = target.before.before.before in
-    let start = asked.before.before.before in
-    let matched = start.before in
-    let args = matched.before.args in
-    let h = holds_start start.start-in-2.ensures in
-    let g = holds_field (ascii "callback resume ") args.asked h asked.before.long8-in-2.ensures asked.field-asking.ensures (omega arith) in
-    let i = holds_field (ascii " for ") args.target g target.before.long8-in-2-2.ensures target.field-in-2.ensures (omega arith) in
-    rw matched.in-0.keys3 (holds_word (ascii "\n") i c.word-in-2.ensures (omega arith)).line
+    let args = c.args in
+    let h = holds_start c.start-in-2.ensures in
+    let g = holds_field (ascii "callback resume ") args.asked h c.long8-in-2.ensures c.field-asking.ensures (omega arith) in
+    let i = holds_field (ascii " for ") args.target g c.long8-in-2-2.ensures c.field-in-2.ensures (omega arith) in
+    rw c.in-2.is (holds_word (ascii "\n") i c.word-in-2.ensures (omega arith)).line
 
 -- idle
 pub returns-in-3 : goal.returns-in-3
 unfolding ascii callback_text if◌then◌else◌
 returns-in-3 c =
-    let field = c.before.before in
-    let start = field.before.before.before in
-    let matched = start.before in
-    let h = holds_start start.start-in-3.ensures in
-    let g = holds_field (ascii "callback idle ") matched.before.args.asked h field.before.long8-in-3.ensures field.field-in-3.ensures (omega arith) in
-    rw matched.in-0.keys4 (holds_word (ascii "\n") g c.word-in-3.ensures (omega arith)).line
+    let h = holds_start c.start-in-3.ensures in
+    let g = holds_field (ascii "callback idle ") c.args.asked h c.long8-in-3.ensures c.field-in-3.ensures (omega arith) in
+    rw c.in-3.is (holds_word (ascii "\n") g c.word-in-3.ensures (omega arith)).line
 
 -- of a bench that is not sound
 pub returns-in_default : goal.returns-in_default
 unfolding ascii callback_text if◌then◌else◌
 returns-in_default c =
-    let n = c.before.before.before.in-0.rest in
-    let h = holds_start c.before.before.start-in_default.ensures in
+    let n = c.in-0.rest in
+    let h = holds_start c.start-in_default.ensures in
     rw (ne_eqb _ 0 n.0.0.0.1, ne_eqb _ 1 n.0.0.1, ne_eqb _ 2 n.0.1, ne_eqb _ 3 n.1) (holds_word (ascii "callback unknown\n") h c.word-in_default.ensures (omega arith)).line

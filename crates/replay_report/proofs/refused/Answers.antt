@@ -10,12 +10,9 @@ use Rattle.replay_report.proofs.refused.Goals as goal
 pub returns : goal.returns
 unfolding ascii refused_text
 returns c =
-    let index = c.before.before in
-    let number = index.before.before.before.before in
-    let start = number.before.before.before.before in
-    let answer = answer_of start.before.args.answer in
-    let n = number.before.long8.ensures ∙ number.before.before.number.ensures in
-    let i = index.before.long16.ensures ∙ index.before.before.index.ensures in
-    let g = holds_field (ascii "table refused ") answer.number (holds_start start.start.ensures) n number.field-numbered.ensures (omega arith) in
-    let k = holds_field (ascii " ") answer.index g i index.field-indexed.ensures (omega arith) in
+    let answer = answer_of c.args.answer in
+    let n = c.long8.ensures ∙ c.number.ensures in
+    let i = c.long16.ensures ∙ c.index.ensures in
+    let g = holds_field (ascii "table refused ") answer.number (holds_start c.start.ensures) n c.field-numbered.ensures (omega arith) in
+    let k = holds_field (ascii " ") answer.index g i c.field-indexed.ensures (omega arith) in
     (holds_word (ascii "\n") k c.word.ensures (omega arith)).line

@@ -9,7 +9,5 @@ use Rattle.replay_report.proofs.replies.Goals as goal
 pub returns : goal.returns
 unfolding ascii replies_text
 returns c =
-    let field = c.before.before in
-    let start = field.before.before in
-    let g = holds_field (ascii "replies ") start.before.args.count (holds_start start.start.ensures) refl field.field.ensures (omega arith) in
+    let g = holds_field (ascii "replies ") c.args.count (holds_start c.start.ensures) refl c.field.ensures (omega arith) in
     (holds_word (ascii "\n") g c.word.ensures (omega arith)).line

@@ -7,8 +7,8 @@ use Rattle.replay_row.proofs.sign.Goals as goal
 
 pub returns-then-magnitude-eq0 : goal.returns-then-magnitude-eq0
 unfolding ascii sign_text if◌then◌else◌
-returns-then-magnitude-eq0 c = rw c.before.before.if-magnitude-eq0.true c.word.ensures
+returns-then-magnitude-eq0 c = rw c.if-magnitude-eq0.true c.word.ensures
 
 pub returns : goal.returns
 unfolding ascii sign_text if◌then◌else◌
-returns c = rw (ne_eqb _ 0 c.before.before.if-magnitude-eq0.false) c.word-2.ensures
+returns c = rw (ne_eqb _ 0 c.if-magnitude-eq0.false) c.word-2.ensures

@@ -1,8 +1,8 @@
 -- Nothing more is fed where the read fails or the log ends, else one piece. Assumes nothing.
--- the read fails
 use Rattle.replay_session.proofs.Sessions.{ran_done, ran_failed, stepped_none, stepped_one}
 use Rattle.replay_session.proofs.next.Goals as goal
 
+-- the read fails
 pub returns-then-read : goal.returns-then-read
 returns-then-read c = let ended = c.ended.ensures in stepped_none ended.0 (ran_failed ended.1) ended.2
 

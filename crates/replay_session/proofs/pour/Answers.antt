@@ -9,25 +9,18 @@ loop-session-init c = onward_here c.fed-session.ensures
 
 pub loop-session-smaller : goal.loop-session-smaller
 loop-session-smaller c =
-    let tested = c.before in
-    let turn = tested.before.before.before in
-    rw turn.loop-session-test.true (turns_fewer _ _ _ tested.if-progress-ge18446744073709551615.false c.next-session.ensures.counted)
+    rw c.loop-session-test.true (turns_fewer _ _ _ c.if-progress-ge18446744073709551615.false c.next-session.ensures.counted)
 
 pub loop-session-preserved : goal.loop-session-preserved
 loop-session-preserved c =
-    let turn = c.before.before.before.before in
-    let loop = turn.before in
-    onward_on loop.loop-session.invariant c.next-session.ensures.onward
+    onward_on c.loop-session.invariant c.next-session.ensures.onward
 
 -- there is no more
 pub returns-after-loop-session : goal.returns-after-loop-session
 returns-after-loop-session c =
-    let loop = c.before in
-    went_on refl refl refl (onward_on (onward_one loop.before.fed-session.ensures) loop.loop-session.invariant)
+    went_on refl refl refl (onward_on (onward_one c.fed-session.ensures) c.loop-session.invariant)
 
 -- the pieces cannot be counted any more
 pub returns-then-progress-ge18446744073709551615 : goal.returns-then-progress-ge18446744073709551615
 returns-then-progress-ge18446744073709551615 c =
-    let turn = c.before.before.before in
-    let loop = turn.before in
-    went_on refl refl refl (onward_on (onward_one loop.before.fed-session.ensures) loop.loop-session.invariant)
+    went_on refl refl refl (onward_on (onward_one c.fed-session.ensures) c.loop-session.invariant)

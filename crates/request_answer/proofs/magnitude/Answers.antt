@@ -11,4 +11,4 @@ returns-then-v-eq0 c = simp (eq-eqb _ _ c.if-v-eq0.true)
 
 pub returns : goal.returns
 unfolding magnitude if◌then◌else◌
-returns c = let l = c.before.ranges.v in simp (ne_eqb _ _ c.if-v-eq0.false) (omega arith)
+returns c = let l = c.ranges.v in simp (ne_eqb _ _ c.if-v-eq0.false) (omega arith)

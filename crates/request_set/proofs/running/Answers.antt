@@ -1,15 +1,15 @@
 -- Each exit is one part of the definition. Assumes nothing.
--- it is disabled
 use Rattle.model.specs.Logic.{◌and◌}
 use borrow.Author.Tests.{eq-eqb, ne_eqb}
 use Rattle.model.specs.Requests.{running}
 use Rattle.request_set.proofs.running.Goals as goal
 
+-- it is disabled
 pub returns-then-depth-ne0 : goal.returns-then-depth-ne0
 unfolding running ◌and◌
-returns-then-depth-ne0 c = rw (← c.before.depth.ensures, ne_eqb _ _ c.if-depth-ne0.true)
+returns-then-depth-ne0 c = rw (← c.depth.ensures, ne_eqb _ _ c.if-depth-ne0.true)
 
 -- it is enabled: the error decides
 pub returns : goal.returns
 unfolding running ◌and◌
-returns c = rw (← c.before.before.depth.ensures, eq-eqb _ _ c.before.if-depth-ne0.false, ← c.error.ensures)
+returns c = rw (← c.depth.ensures, eq-eqb _ _ c.if-depth-ne0.false, ← c.error.ensures)

@@ -13,49 +13,42 @@ use Rattle.request_set.proofs.supplier_down.Goals as goal
 pub returns-then-end-gt-LINKS : goal.returns-then-end-gt-LINKS
 unfolding LINKS ROWS
 returns-then-end-gt-LINKS c =
-    let w = c.before in
-    let r = w.before.before.before.before in
-    record { is = λ words h. let z = c.if-end-gt-LINKS.true in let l = r.row-at.ensures.1 in let e = w.wide-end.ensures in absurd (let u = end_low h r.row-at.result l in omega arith) }
+    record { is = λ words h. let z = c.if-end-gt-LINKS.true in let l = c.row-at.ensures.1 in let e = c.wide-end.ensures in absurd (let u = end_low h c.row-at.result l in omega arith) }
 
 pub loop-i-init : goal.loop-i-init
 loop-i-init c = (omega arith, λ words j a b. absurd (omega arith))
 
 pub link_down-requires : goal.link_down-requires
 unfolding LINKS
-link_down-requires c κs = let l = c.before.before.if-end-gt-LINKS.false in omega (arith, c.loop-i-test.true)
+link_down-requires c = let l = c.if-end-gt-LINKS.false in omega (arith, c.loop-i-test.true)
 
 -- a link of p has its supplier down
 pub returns-then-link_down : goal.returns-then-link_down
 unfolding ROWS
 returns-then-link_down c =
-    let i = c.before.before in
-    let w = i.before.before.before in
-    let r = w.before.before.before.before in
-    let x = w.before.before.wide-i.ensures in
-    let e = r.row-at.ensures.0 in
+    let x = c.wide-i.ensures in
+    let e = c.row-at.ensures.0 in
     record {
       is =
           λ words h.
-          down_met h _ (let l = r.row-at.ensures.1 in omega arith) i.before.loop-i.i (rw (x, e) at i.before.loop-i.invariant.0) (rw (w.wide-end.ensures, e) at i.loop-i-test.true)
-          (sym (c.before.link_down.ensures words) ∙ c.if-link_down.true);
+          down_met h _ (let l = c.row-at.ensures.1 in omega arith) c.loop-i.i (rw (x, e) at c.loop-i.invariant.0) (rw (c.wide-end.ensures, e) at c.loop-i-test.true)
+          (sym (c.link_down.ensures words) ∙ c.if-link_down.true);
     }
 
 pub overflow_add-i : goal.overflow_add-i
 overflow_add-i c =
-    let turn = c.before.before in
-    let few = turn.before.before in
-    let t = turn.loop-i-test.true in
-    let l = few.if-end-gt-LINKS.false in
+    let t = c.loop-i-test.true in
+    let l = c.if-end-gt-LINKS.false in
     omega arith
 
 pub loop-i-preserved : goal.loop-i-preserved
 loop-i-preserved c =
-    let q = c.before.before.before.loop-i in (
+    let q = c.loop-i in (
       let z = q.invariant.0 in omega arith,
       λ words j a b.
           elim (dec_lt j q.i) [
             | yes y ↦ q.invariant.1 words j a y
-            | no g ↦ let e : j ≡ q.i = omega arith in rw e (sym (c.before.link_down.ensures words) ∙ c.if-link_down.false)
+            | no g ↦ let e : j ≡ q.i = omega arith in rw e (sym (c.link_down.ensures words) ∙ c.if-link_down.false)
           ],
     )
 
@@ -63,16 +56,14 @@ loop-i-preserved c =
 pub returns : goal.returns
 unfolding ROWS
 returns c =
-    let q = c.before.loop-i in
-    let w = c.before.before.before in
-    let r = w.before.before.before.before in
-    let e = r.row-at.ensures.0 in
-    let x = rw e at w.before.before.wide-i.ensures in
-    let y = rw e at w.wide-end.ensures in
+    let q = c.loop-i in
+    let e = c.row-at.ensures.0 in
+    let x = rw e at c.wide-i.ensures in
+    let y = rw e at c.wide-end.ensures in
     record {
       is =
           λ words h.
-          down_none h _ (let l = r.row-at.ensures.1 in omega arith) (λ j a b. q.invariant.1 words j (omega arith) (let z = c.loop-i-test.false in omega arith));
+          down_none h _ (let l = c.row-at.ensures.1 in omega arith) (λ j a b. q.invariant.1 words j (omega arith) (let z = c.loop-i-test.false in omega arith));
     }
 
 pub offset_bounds-first-at : goal.offset_bounds-first-at
@@ -82,13 +73,13 @@ pub bounds-first-at : goal.bounds-first-at
 bounds-first-at c = omega (arith, c.row-at.ensures.1)
 
 pub overflow_add-at : goal.overflow_add-at
-overflow_add-at c = omega (arith, c.before.before.row-at.ensures.1)
+overflow_add-at c = omega (arith, c.row-at.ensures.1)
 
 pub offset_bounds-first-at-2 : goal.offset_bounds-first-at-2
-offset_bounds-first-at-2 c = omega (arith, c.before.before.row-at.ensures.1)
+offset_bounds-first-at-2 c = omega (arith, c.row-at.ensures.1)
 
 pub bounds-first-at-2 : goal.bounds-first-at-2
-bounds-first-at-2 c = omega (arith, c.before.before.row-at.ensures.1)
+bounds-first-at-2 c = omega (arith, c.row-at.ensures.1)
 
 pub loop-i-smaller : goal.loop-i-smaller
 loop-i-smaller c = omega arith

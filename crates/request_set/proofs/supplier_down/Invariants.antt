@@ -8,7 +8,7 @@ use Rattle.request_set.specs.Sets.{link_down}
 use Rattle.request_set.proofs.supplier_down.Given as goal
 
 abbrev pub invariant-loop-i : goal.invariant-loop-i
-invariant-loop-i l = (l.end ≤ l.i) × ((words : List ℕ) (j : ℕ) → l.end ≤ j → j < l.i → link_down (state_in l.bytes words) j ≡ false)
+invariant-loop-i l = (l.initial.i ≤ l.i) × ((words : List ℕ) (j : ℕ) → l.initial.i ≤ j → j < l.i → link_down (state_in l.bytes words) j ≡ false)
 
 abbrev pub decreases-loop-i : goal.decreases-loop-i
-decreases-loop-i l = l.initial.i - l.i
+decreases-loop-i l = l.end - l.i

@@ -7,12 +7,11 @@ use Rattle.request_suspend.proofs.ask_suspend.Goals as goal
 pub returns : goal.returns
 unfolding ask_suspend
 returns c =
-    let opened = c.before in
-    let turned = opened.before.before.set_status.ensures in
+    let turned = c.set_status.ensures in
     record {
       is =
           λ h l.
           let set = turned.is h l in
-          rw (opened.set_callback.ensures _ (long_turned _ _ _ _ _ h.ready set), set, c.ask.ensures);
-      stays = then_callback _ _ _ _ _ _ _ _ (turned_on turned) opened.set_callback.ensures;
+          rw (c.set_callback.ensures _ (long_turned _ _ _ _ _ h.ready set), set, c.ask.ensures);
+      stays = then_callback _ _ _ _ _ _ _ _ (turned_on turned) c.set_callback.ensures;
     }

@@ -1,10 +1,10 @@
 -- Both exits by the contract. Assumes nothing.
--- kind 6
 use mathlib.Core.Path.{refl}
 use Rattle.request_suspend.proofs.put_first.Goals as goal
 
+-- kind 6
 pub returns-then-kind-eq6 : goal.returns-then-kind-eq6
-returns-then-kind-eq6 c = record { puts = λ e. c.put.ensures; none = λ n. absurd (n c.before.before.if-kind-eq6.true) }
+returns-then-kind-eq6 c = record { puts = λ e. c.put.ensures; none = λ n. absurd (n c.if-kind-eq6.true) }
 
 -- another kind
 pub returns : goal.returns

@@ -13,16 +13,13 @@ use Rattle.request_wake.proofs.ask_resume.Goals as goal
 pub returns : goal.returns
 unfolding resume_of ROWS
 returns c =
-    let opening = c.before in
-    let turning = opening.before.before in
-    let start = turning.before.before in
-    let row = start.ranges.q in
+    let row = c.ranges.q in
     record {
       is =
           λ words h z.
           let turned =
-          turning.set_status_cell.ensures words
-          ∙ turned_same (state_in start.args.bytes.now words) start.args.q RESUMING h (status_row h start.args.q (omega arith)) (both_asleep _ RESUMING z (omega arith)) in
-          rw (opening.set_callback.ensures words (long_turned _ _ _ _ _ h turned), turned, c.ask.ensures);
-      stays = λ words. then_callback _ words _ _ _ _ _ _ (ap fixed (turning.set_status_cell.ensures words)) opening.set_callback.ensures;
+          c.set_status_cell.ensures words
+          ∙ turned_same (state_in c.args.bytes.now words) c.args.q RESUMING h (status_row h c.args.q (omega arith)) (both_asleep _ RESUMING z (omega arith)) in
+          rw (c.set_callback.ensures words (long_turned _ _ _ _ _ h turned), turned, c.ask.ensures);
+      stays = λ words. then_callback _ words _ _ _ _ _ _ (ap fixed (c.set_status_cell.ensures words)) c.set_callback.ensures;
     }

@@ -1,6 +1,5 @@
 -- `request_wake::get_wake` meets its contract: the get's own answer where it was -75, else the wake from the state that the get left.
 -- Assumes nothing.
--- the get was -75
 use mathlib.Core.Path.{◌∙◌}
 use Rattle.model.specs.Requests.{get, wake, get_wake}
 use Rattle.memory.specs.Layout.{state_in}
@@ -9,32 +8,29 @@ use Rattle.request_hold.proofs.Chained.{held_stop, held_go, get_stays}
 use Rattle.request_wake.proofs.Changes.{get_indexed, get_count}
 use Rattle.request_wake.proofs.get_wake.Goals as goal
 
+-- the get was -75
 pub returns-then-code-ne0 : goal.returns-then-code-ne0
 unfolding get get_wake
 returns-then-code-ne0 c =
-    let test = c.before in
-    let got = test.before in
-    let a = got.before.before.args in
+    let a = c.args in
     record {
-      is = λ h l. rw c.finished.ensures (held_stop _ _ _ _ _ (λ s. wake s a.p) _ (got.get-code.ensures _) test.if-code-ne0.true);
-      stays = λ f. get_stays (state_in a.bytes.now a.words.now) _ _ _ (got.get-code.ensures _);
+      is = λ h l. rw c.finished.ensures (held_stop _ _ _ _ _ (λ s. wake s a.p) _ (c.get-code.ensures _) c.if-code-ne0.true);
+      stays = λ f. get_stays (state_in a.bytes.now a.words.now) _ _ _ (c.get-code.ensures _);
     }
 
 -- the wake follows
 pub returns : goal.returns
 unfolding get get_wake
 returns c =
-    let test = c.before.before.before in
-    let got = test.before in
-    let a = got.before.before.args in
+    let a = c.args in
     record {
       is =
           λ h l.
-          let held = got.get-code.ensures a.bytes.now in
-          held_go _ _ _ _ _ (λ s. wake s a.p) _ held test.if-code-ne0.false
+          let held = c.get-code.ensures a.bytes.now in
+          held_go _ _ _ _ _ (λ s. wake s a.p) _ held c.if-code-ne0.false
           ∙ c.wake.ensures.is (get_indexed _ _ _ _ held h) (get_count (state_in a.bytes.now a.words.now) _ _ _ held l);
       stays =
           λ f.
-          let e = get_stays (state_in a.bytes.now a.words.now) _ _ _ (got.get-code.ensures a.bytes.now) in
+          let e = get_stays (state_in a.bytes.now a.words.now) _ _ _ (c.get-code.ensures a.bytes.now) in
           c.wake.ensures.stays (stays_full _ _ _ _ e f) ∙ e;
     }

@@ -1,37 +1,31 @@
 -- `request_wake::go_on` meets its contract: the lowest member is the model's, and whether there is one decides. Assumes nothing.
--- none remains
 use mathlib.Core.Path.{refl, ◌∙◌}
 use borrow.Author.Tests.{lt-ltb, le-ltb}
 use Rattle.links.proofs.Order.{listed}
 use Rattle.request_wake.proofs.Changes.{lowest_asleep, goes_done, goes_asks}
 use Rattle.request_wake.proofs.go_on.Goals as goal
 
+-- none remains
 pub returns-then-devices-low : goal.returns-then-devices-low
 returns-then-devices-low c =
-    let test = c.before in
-    let counted = test.before in
-    let found = counted.before.before in
-    let words = found.before.before.args.words.now in
+    let words = c.args.words.now in
     record {
       is =
           λ h l.
-          let low = found.lowest_member-low.ensures.is words (listed h) l in
-          rw c.finished.ensures (goes_done _ _ low (le-ltb _ _ (rw (counted.devices.ensures words) at test.if-devices-low.true)));
+          let low = c.lowest_member-low.ensures.is words (listed h) l in
+          rw c.finished.ensures (goes_done _ _ low (le-ltb _ _ (rw (c.devices.ensures words) at c.if-devices-low.true)));
       stays = λ f. refl;
     }
 
 -- the lowest is asked
 pub returns : goal.returns
 returns c =
-    let test = c.before.before in
-    let counted = test.before in
-    let found = counted.before.before in
-    let words = found.before.before.args.words.now in
+    let words = c.args.words.now in
     record {
       is =
           λ h l.
-          let low = found.lowest_member-low.ensures.is words (listed h) l in
-          goes_asks _ _ low (lt-ltb _ _ (rw (counted.devices.ensures words) at test.if-devices-low.false))
+          let low = c.lowest_member-low.ensures.is words (listed h) l in
+          goes_asks _ _ low (lt-ltb _ _ (rw (c.devices.ensures words) at c.if-devices-low.false))
           ∙ c.ask_resume.ensures.is _ h.ready (rw low (lowest_asleep h.ready _ l));
       stays = c.ask_resume.ensures.stays words;
     }

@@ -10,29 +10,25 @@ pub loop-i-init : goal.loop-i-init
 loop-i-init c = no_bytes _ _ c.least-count.ensures
 
 pub bounds-from-i : goal.bounds-from-i
-bounds-from-i c = omega (arith, c.before.before.before.least-count.ensures)
+bounds-from-i c = omega (arith, c.least-count.ensures)
 
 pub bounds-into-i : goal.bounds-into-i
 bounds-into-i c =
-    let loop = c.before.before in
-    let z = loop.loop-i.invariant.long in
-    omega (arith, loop.before.least-count.ensures)
+    let z = c.loop-i.invariant.long in
+    omega (arith, c.least-count.ensures)
 
 pub loop-i-preserved : goal.loop-i-preserved
 loop-i-preserved c =
-    let turn = c.before in
-    let loop = turn.before in
-    let start = loop.before.before.before.before in
-    let fits = loop.loop-i.invariant.fits in
-    let room : loop.loop-i.i < length start.args.into.now = omega arith in
-    copied_one _ _ _ turn.loop-i-test.true loop.loop-i.invariant refl refl (byte_at start.args.from.now _ _ room)
+    let fits = c.loop-i.invariant.fits in
+    let room : c.loop-i.i < length c.args.into.now = omega arith in
+    copied_one _ _ _ c.loop-i-test.true c.loop-i.invariant refl refl (byte_at c.args.from.now _ _ room)
 
 pub shape_of-into : goal.shape_of-into
-shape_of-into c = c.before.loop-i.invariant.long
+shape_of-into c = c.loop-i.invariant.long
 
 -- all are passed
 pub returns : goal.returns
-returns c = copied_all c.before.loop-i.invariant c.loop-i-test.false
+returns c = copied_all c.loop-i.invariant c.loop-i-test.false
 
 pub overflow_add-i : goal.overflow_add-i
 overflow_add-i c = omega arith

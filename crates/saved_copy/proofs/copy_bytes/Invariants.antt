@@ -5,7 +5,7 @@ use Rattle.saved_copy.proofs.Copying.{Copied}
 use Rattle.saved_copy.proofs.copy_bytes.Given as goal
 
 abbrev pub invariant-loop-i : goal.invariant-loop-i
-invariant-loop-i l = Copied l.initial.into (take (length l.count) l.from) l.count l.i l.into
+invariant-loop-i l = Copied l.count (take (length l.initial.into) l.from) l.initial.into l.i l.into
 
 abbrev pub decreases-loop-i : goal.decreases-loop-i
-decreases-loop-i l = l.initial.into - l.i
+decreases-loop-i l = l.count - l.i

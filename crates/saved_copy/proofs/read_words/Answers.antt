@@ -10,36 +10,32 @@ pub loop-j-init : goal.loop-j-init
 loop-j-init c = no_words _ _ c.least-count.ensures
 
 pub overflow_mul-j : goal.overflow_mul-j
-overflow_mul-j c = omega (arith, c.before.before.least-count.ensures)
+overflow_mul-j c = omega (arith, c.least-count.ensures)
 
 pub read_word-requires : goal.read_word-requires
-read_word-requires c κs = omega (arith, c.before.before.least-count.ensures)
+read_word-requires c = omega (arith, c.least-count.ensures)
 
 pub offset_bounds-into-j : goal.offset_bounds-into-j
-offset_bounds-into-j c = omega (arith, c.before.before.before.least-count.ensures)
+offset_bounds-into-j c = omega (arith, c.least-count.ensures)
 
 pub bounds-into-j : goal.bounds-into-j
 bounds-into-j c =
-    let loop = c.before.before in
-    let z = loop.loop-j.invariant.long in
-    omega (arith, loop.before.least-count.ensures)
+    let z = c.loop-j.invariant.long in
+    omega (arith, c.least-count.ensures)
 
 pub loop-j-preserved : goal.loop-j-preserved
 loop-j-preserved c =
-    let turn = c.before in
-    let loop = turn.before in
-    let start = loop.before.before.before.before in
-    let least = loop.before.least-count.ensures in
-    let room : loop.loop-j.j < length start.args.into.now = omega arith in
-    let whole : 4 * loop.loop-j.j + 3 < length start.args.from.now = omega arith in
-    copied_one _ _ _ turn.loop-j-test.true loop.loop-j.invariant refl refl (c.read_word.ensures ∙ word_at_lem start.args.from.now _ _ room whole)
+    let least = c.least-count.ensures in
+    let room : c.loop-j.j < length c.args.into.now = omega arith in
+    let whole : 4 * c.loop-j.j + 3 < length c.args.from.now = omega arith in
+    copied_one _ _ _ c.loop-j-test.true c.loop-j.invariant refl refl (c.read_word.ensures ∙ word_at_lem c.args.from.now _ _ room whole)
 
 pub shape_of-into : goal.shape_of-into
-shape_of-into c = c.before.loop-j.invariant.long
+shape_of-into c = c.loop-j.invariant.long
 
 -- all are passed
 pub returns : goal.returns
-returns c = copied_all c.before.loop-j.invariant c.loop-j-test.false
+returns c = copied_all c.loop-j.invariant c.loop-j-test.false
 
 pub overflow_add-j : goal.overflow_add-j
 overflow_add-j c = omega arith

@@ -6,7 +6,7 @@ use Rattle.saved_copy.proofs.Copying.{Copied}
 use Rattle.saved_copy.proofs.read_words.Given as goal
 
 abbrev pub invariant-loop-j : goal.invariant-loop-j
-invariant-loop-j l = Copied l.initial.into (take (length l.count) (words_from l.from)) l.count l.j l.into
+invariant-loop-j l = Copied l.count (take (length l.initial.into) (words_from l.from)) l.initial.into l.j l.into
 
 abbrev pub decreases-loop-j : goal.decreases-loop-j
-decreases-loop-j l = l.initial.into - l.j
+decreases-loop-j l = l.count - l.j

@@ -9,37 +9,32 @@ pub loop-j-init : goal.loop-j-init
 loop-j-init c = none_written _ _ c.least-count.ensures
 
 pub overflow_mul-j : goal.overflow_mul-j
-overflow_mul-j c = omega (arith, c.before.before.before.least-count.ensures)
+overflow_mul-j c = omega (arith, c.least-count.ensures)
 
 pub offset_bounds-from-j : goal.offset_bounds-from-j
-offset_bounds-from-j c = omega (arith, c.before.before.before.least-count.ensures)
+offset_bounds-from-j c = omega (arith, c.least-count.ensures)
 
 pub bounds-from-j : goal.bounds-from-j
-bounds-from-j c = omega (arith, c.before.before.before.before.least-count.ensures)
+bounds-from-j c = omega (arith, c.least-count.ensures)
 
 pub write_word-requires : goal.write_word-requires
-write_word-requires c κs =
-    let loop = c.before.before.before in
-    let z = loop.loop-j.invariant.long in
-    omega (arith, loop.before.least-count.ensures)
+write_word-requires c =
+    let z = c.loop-j.invariant.long in
+    omega (arith, c.least-count.ensures)
 
 pub loop-j-preserved : goal.loop-j-preserved
 loop-j-preserved c =
-    let written = c.before.before in
-    let turn = written.before.before.before in
-    let loop = turn.before in
-    let start = loop.before.before.before.before in
-    let least = loop.before.least-count.ensures in
-    let room : loop.loop-j.j < length start.args.into-1.now / 4 = omega arith in
-    rw written.write_word.ensures
-    (copied_word (take (length start.args.into-1.now / 4) start.args.from.now) _ turn.loop-j-test.true loop.loop-j.invariant (byte_at start.args.from.now _ _ room))
+    let least = c.least-count.ensures in
+    let room : c.loop-j.j < length c.args.into.now / 4 = omega arith in
+    rw c.write_word.ensures
+    (copied_word (take (length c.args.into.now / 4) c.args.from.now) _ c.loop-j-test.true c.loop-j.invariant (byte_at c.args.from.now _ _ room))
 
 pub shape_of-into : goal.shape_of-into
-shape_of-into c = c.before.loop-j.invariant.long
+shape_of-into c = c.loop-j.invariant.long
 
 -- all are passed
 pub returns : goal.returns
-returns c = let done = c.loop-j-test.false in copied_all c.before.loop-j.invariant (omega arith)
+returns c = let done = c.loop-j-test.false in copied_all c.loop-j.invariant (omega arith)
 
 pub overflow_add-j : goal.overflow_add-j
 overflow_add-j c = omega arith

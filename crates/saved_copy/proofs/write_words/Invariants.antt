@@ -6,7 +6,7 @@ use Rattle.saved_copy.proofs.Copying.{Copied}
 use Rattle.saved_copy.proofs.write_words.Given as goal
 
 abbrev pub invariant-loop-j : goal.invariant-loop-j
-invariant-loop-j l = Copied (4 * l.initial.into) (word_bytes (take (length l.count / 4) l.from)) l.count (4 * l.j) l.into
+invariant-loop-j l = Copied (4 * l.count) (word_bytes (take (length l.initial.into / 4) l.from)) l.initial.into (4 * l.j) l.into
 
 abbrev pub decreases-loop-j : goal.decreases-loop-j
-decreases-loop-j l = l.initial.into - l.j
+decreases-loop-j l = l.count - l.j

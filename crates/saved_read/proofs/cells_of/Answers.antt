@@ -7,15 +7,12 @@ use Rattle.saved_read.proofs.cells_of.Goals as goal
 
 pub fill-requires : goal.fill-requires
 unfolding BYTES WORDS ROWS LINKS
-fill-requires c κs =
-    let made = c.before.before.before.before in
-    let fresh = made.refused-fresh.ensures in
-    version1_fits _ _ _ made.before.before.requires (zeros_long fresh.1) (zeros_long fresh.2)
+fill-requires c =
+    let fresh = c.refused-fresh.ensures in
+    version1_fits _ _ _ c.requires (zeros_long fresh.1) (zeros_long fresh.2)
 
 pub returns : goal.returns
 unfolding BYTES WORDS ROWS LINKS
 returns c =
-    let filled = c.before.before in
-    let lent = filled.before.before.before in
-    let fresh = lent.before.before.refused-fresh.ensures in
-    cells_filled refl fresh.1 fresh.2 filled.fill.ensures
+    let fresh = c.refused-fresh.ensures in
+    cells_filled refl fresh.1 fresh.2 c.fill.ensures

@@ -5,7 +5,7 @@ use Rattle.saved_read.proofs.Laying.{Filling}
 use Rattle.saved_read.proofs.fill.Given as goal
 
 abbrev pub invariant-loop-k : goal.invariant-loop-k
-invariant-loop-k l = Filling l.f l.initial.words l.k l.spans l.initial.bytes l.bytes l.words
+invariant-loop-k l = Filling l.f l.spans l.k l.initial.bytes l.initial.words l.bytes l.words
 
 abbrev pub decreases-loop-k : goal.decreases-loop-k
-decreases-loop-k l = length l.initial.words - l.k
+decreases-loop-k l = length l.spans - l.k

@@ -4,7 +4,4 @@ use Rattle.saved_read.proofs.lay_bytes.Goals as goal
 
 pub returns : goal.returns
 returns c =
-    let copied = c.before.before in
-    let named = copied.before.before.before in
-    let start = named.before.before.before.before in
-    bytes_laid start.args.f.now _ _ _ _ _ start.requires.0 start.requires.1 copied.copy_bytes.ensures
+    bytes_laid c.args.f.now _ _ _ _ _ c.requires.0 c.requires.1 c.copy_bytes.ensures

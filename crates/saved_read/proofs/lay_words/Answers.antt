@@ -4,7 +4,4 @@ use Rattle.saved_read.proofs.lay_words.Goals as goal
 
 pub returns : goal.returns
 returns c =
-    let copied = c.before.before in
-    let named = copied.before.before.before in
-    let start = named.before.before.before.before in
-    words_laid start.args.f.now _ _ _ _ _ start.requires.0 start.requires.1 copied.read_words.ensures
+    words_laid c.args.f.now _ _ _ _ _ c.requires.0 c.requires.1 c.read_words.ensures

@@ -3,25 +3,19 @@ use Rattle.saved_read.proofs.Laying.{fits_words, fits_bytes, placed_words, place
 use Rattle.saved_read.proofs.place.Goals as goal
 
 pub lay_words-requires : goal.lay_words-requires
-lay_words-requires c κs =
-    let chosen = c.before in
-    fits_words chosen.before.before.before.before.requires chosen.if-span.true
+lay_words-requires c =
+    fits_words c.requires c.if-span.true
 
 -- words
 pub returns-then-span : goal.returns-then-span
 returns-then-span c =
-    let laid = c.before.before in
-    let chosen = laid.before.before in
-    placed_words _ _ _ _ chosen.if-span.true laid.lay_words.ensures
+    placed_words _ _ _ _ c.if-span.true c.lay_words.ensures
 
 pub lay_bytes-requires : goal.lay_bytes-requires
-lay_bytes-requires c κs =
-    let chosen = c.before in
-    fits_bytes chosen.before.before.before.before.requires chosen.if-span.false
+lay_bytes-requires c =
+    fits_bytes c.requires c.if-span.false
 
 -- bytes
 pub returns : goal.returns
 returns c =
-    let laid = c.before.before in
-    let chosen = laid.before.before in
-    placed_bytes _ _ _ _ chosen.if-span.false laid.lay_bytes.ensures
+    placed_bytes _ _ _ _ c.if-span.false c.lay_bytes.ensures

@@ -1,6 +1,5 @@
 -- `saved_read::read` meets its contract: the tests in their order, each with its number; a form that passes them is read by its spans.
 -- Assumes nothing.
--- fewer than five bytes
 use native.Mathlib.Omega.{arith}
 use mathlib.Core.Path.{ap, sym, ◌∙◌}
 use Rattle.model.specs.Limits.{ROWS, LINKS}
@@ -11,27 +10,25 @@ use Rattle.saved_form.specs.Form.{FORM}
 use Rattle.saved_read.proofs.Heads.{head_short, head_mark, head_version, head_length, read_refused, read_taken}
 use Rattle.saved_read.proofs.read.Goals as goal
 
+-- fewer than five bytes
 pub returns-then-f-lt-HEADER : goal.returns-then-f-lt-HEADER
 returns-then-f-lt-HEADER c =
     let r = c.refused.ensures in
-    read_refused (head_short _ c.before.if-f-lt-HEADER.true) (λ z. omega arith) (ap restoring_of r.0) r.1 r.2
+    read_refused (head_short _ c.if-f-lt-HEADER.true) (λ z. omega arith) (ap restoring_of r.0) r.1 r.2
 
 -- another mark
 pub returns-then-not-is_marked : goal.returns-then-not-is_marked
 returns-then-not-is_marked c =
     let r = c.refused-then-not-is_marked.ensures in
-    let tested = c.before in
-    let some = tested.before.before.if-f-lt-HEADER.false in
-    read_refused (head_mark _ some (failed tested.before.is_marked.ensures tested.if-not-is_marked.true-raw)) (λ z. omega arith) (ap restoring_of r.0) r.1 r.2
+    let some = c.if-f-lt-HEADER.false in
+    read_refused (head_mark _ some (failed c.is_marked.ensures c.if-not-is_marked.true-raw)) (λ z. omega arith) (ap restoring_of r.0) r.1 r.2
 
 -- another version
 pub returns-then-version_in-ne1 : goal.returns-then-version_in-ne1
 returns-then-version_in-ne1 c =
     let r = c.refused-then-version_in-ne1.ensures in
-    let version = c.before.before in
-    let marked = version.before in
-    let some = marked.before.before.if-f-lt-HEADER.false in
-    read_refused (head_version _ some (passed marked.before.is_marked.ensures marked.if-not-is_marked.false-raw) (λ z. c.before.if-version_in-ne1.true (version.version_in.ensures ∙ z)))
+    let some = c.if-f-lt-HEADER.false in
+    read_refused (head_version _ some (passed c.is_marked.ensures c.if-not-is_marked.false-raw) (λ z. c.if-version_in-ne1.true (c.version_in.ensures ∙ z)))
     (λ z. omega arith) (ap restoring_of r.0) r.1 r.2
 
 -- another length
@@ -39,23 +36,19 @@ pub returns-then-f-ne-FORM : goal.returns-then-f-ne-FORM
 unfolding FORM BYTES WORDS ROWS LINKS
 returns-then-f-ne-FORM c =
     let r = c.refused-then-f-ne-FORM.ensures in
-    let version = c.before.before.before in
-    let marked = version.before in
-    let some = marked.before.before.if-f-lt-HEADER.false in
-    let one = sym version.version_in.ensures ∙ c.before.before.if-version_in-ne1.false in
-    read_refused (head_length _ some (passed marked.before.is_marked.ensures marked.if-not-is_marked.false-raw) one c.before.if-f-ne-FORM.true)
+    let some = c.if-f-lt-HEADER.false in
+    let one = sym c.version_in.ensures ∙ c.if-version_in-ne1.false in
+    read_refused (head_length _ some (passed c.is_marked.ensures c.if-not-is_marked.false-raw) one c.if-f-ne-FORM.true)
     (λ z. omega arith) (ap restoring_of r.0) r.1 r.2
 
 pub cells_of-requires : goal.cells_of-requires
 unfolding FORM BYTES WORDS ROWS LINKS
-cells_of-requires c κs = c.if-f-ne-FORM.false
+cells_of-requires c = c.if-f-ne-FORM.false
 
 -- read
 pub returns : goal.returns
 unfolding FORM BYTES WORDS ROWS LINKS
 returns c =
-    let version = c.before.before.before in
-    let marked = version.before in
-    let some = marked.before.before.if-f-lt-HEADER.false in
-    let one = sym version.version_in.ensures ∙ c.before.before.if-version_in-ne1.false in
-    read_taken some (record { mark = passed marked.before.is_marked.ensures marked.if-not-is_marked.false-raw; version = one; long = c.before.if-f-ne-FORM.false }) c.Cells-of.ensures
+    let some = c.if-f-lt-HEADER.false in
+    let one = sym c.version_in.ensures ∙ c.if-version_in-ne1.false in
+    read_taken some (record { mark = passed c.is_marked.ensures c.if-not-is_marked.false-raw; c = one; long = c.if-f-ne-FORM.false }) c.Cells-of.ensures

@@ -4,14 +4,12 @@ use Rattle.saved_form.specs.Restoring.{version_in}
 use Rattle.saved_read.proofs.version_in.Goals as goal
 
 pub overflow_mul-result : goal.overflow_mul-result
-overflow_mul-result c = omega (arith, c.word8-2.ensures, c.before.shared_slice_known-3-1.given 4)
+overflow_mul-result c = omega (arith, c.word8-2.ensures, c.shared-slice-known3.given 4)
 
 pub overflow_add-result : goal.overflow_add-result
 overflow_add-result c =
-    let high = c.before in
-    let low = high.before in
-    omega (arith, c.word8-2.ensures, low.word8.ensures, high.shared_slice_known-3-1.given 4, low.before.shared_slice_known-2-1.given 3)
+    omega (arith, c.word8-2.ensures, c.word8.ensures, c.shared-slice-known3.given 4, c.shared-slice-known2.given 3)
 
 pub returns : goal.returns
 unfolding version_in
-returns c = rw (c.word8-2.ensures, c.before.before.word8.ensures)
+returns c = rw (c.word8-2.ensures, c.word8.ensures)

@@ -4,6 +4,4 @@ use Rattle.saved_write.proofs.put_bytes.Goals as goal
 
 pub returns : goal.returns
 returns c =
-    let copied = c.before.before in
-    let start = copied.before.before.before.before in
-    bytes_put start.args.from.now _ _ _ start.requires copied.copy_bytes.ensures
+    bytes_put c.args.from.now _ _ _ c.requires c.copy_bytes.ensures

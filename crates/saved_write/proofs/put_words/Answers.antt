@@ -4,6 +4,4 @@ use Rattle.saved_write.proofs.put_words.Goals as goal
 
 pub returns : goal.returns
 returns c =
-    let written = c.before.before in
-    let start = written.before.before.before.before in
-    words_put start.args.from.now _ _ _ start.requires written.write_words.ensures
+    words_put c.args.from.now _ _ _ c.requires c.write_words.ensures

@@ -1,5 +1,4 @@
 -- `saved_write::write` meets its contract: header, bytes and words, one after another. Assumes nothing.
--- both arrays have all their cells
 use mathlib.Core.Path.{◌≡◌}
 use lib.ListN.{length}
 use Rattle.model.specs.Limits.{ROWS, LINKS}
@@ -8,12 +7,14 @@ use Rattle.saved_form.specs.Form.{FORM, header}
 use Rattle.saved_write.proofs.Forming.{formed, no_room, written}
 use borrow.Author.Rules.{rules}
 use Rattle.saved_write.proofs.write.Goals as goal
+use Rattle.saved_write.proofs.write.Goals.{Start}
 
-many_bytes : (c : goal.Start) → length c.args.t1 ≡ BYTES
+-- both arrays have all their cells
+many_bytes : (c : Start) → length c.args.t1 ≡ BYTES
 unfolding BYTES ROWS LINKS
 many_bytes c = let g = c.well_formed.0 in search rules
 
-many_words : (c : goal.Start) → length c.args.t2 ≡ WORDS
+many_words : (c : Start) → length c.args.t2 ≡ WORDS
 unfolding WORDS ROWS
 many_words c = let g = c.well_formed.1.0 in search rules
 
@@ -26,12 +27,5 @@ returns-then-out-lt-FORM c = no_room c.if-out-lt-FORM.true
 pub returns : goal.returns
 unfolding FORM BYTES WORDS ROWS LINKS header
 returns c =
-    let third = c.before.before in
-    let words-lent = third.before.before in
-    let second = words-lent.before.before.before in
-    let bytes-lent = second.before.before in
-    let first = bytes-lent.before.before.before in
-    let tested = first.before.before.before in
-    let start = tested.before.before in
-    written tested.if-out-lt-FORM.false
-    (formed _ _ _ (many_bytes start) (many_words start) first.put_bytes.ensures second.put_bytes-2.ensures third.put_words.ensures)
+    written c.if-out-lt-FORM.false
+    (formed _ _ _ (many_bytes (goal.at.returns c).Start (many_words (goal.at.returns c).Start c.put_bytes.ensures c.put_bytes-2.ensures c.put_words.ensures)

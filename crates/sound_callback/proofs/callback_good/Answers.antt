@@ -1,23 +1,23 @@
 -- One exit for each kind: the test of that kind is the whole one. Assumes nothing.
--- none is open
 use mathlib.Core.Path.{sym, ◌∙◌}
 use Rattle.sound_callback.proofs.Opening.{kind_none, kind_suspend, kind_resume, kind_idle, kind_other}
 use Rattle.sound_callback.proofs.callback_good.Goals as goal
 
+-- none is open
 pub returns-in-0 : goal.returns-in-0
-returns-in-0 c = let m = c.before in record { is = λ k i. c.none_open.ensures.is _ ∙ kind_none _ (sym (m.before.callback.ensures _) ∙ m.in-0.keys1) }
+returns-in-0 c = record { is = λ k i. c.none_open.ensures.is _ ∙ kind_none _ (sym (c.callback.ensures _) ∙ c.in-0.is) }
 
 -- suspend
 pub returns-in-1 : goal.returns-in-1
-returns-in-1 c = let m = c.before in record { is = λ k i. c.suspend_open.ensures ∙ kind_suspend _ (sym (m.before.callback.ensures _) ∙ m.in-0.keys2) }
+returns-in-1 c = record { is = λ k i. c.suspend_open.ensures ∙ kind_suspend _ (sym (c.callback.ensures _) ∙ c.in-1.is) }
 
 -- resume
 pub returns-in-2 : goal.returns-in-2
-returns-in-2 c = let m = c.before in record { is = λ k i. c.resume_open.ensures.is k i ∙ kind_resume _ (sym (m.before.callback.ensures _) ∙ m.in-0.keys3) }
+returns-in-2 c = record { is = λ k i. c.resume_open.ensures.is k i ∙ kind_resume _ (sym (c.callback.ensures _) ∙ c.in-2.is) }
 
 -- idle
 pub returns-in-3 : goal.returns-in-3
-returns-in-3 c = let m = c.before in record { is = λ k i. c.idle_open.ensures ∙ kind_idle _ (sym (m.before.callback.ensures _) ∙ m.in-0.keys4) }
+returns-in-3 c = record { is = λ k i. c.idle_open.ensures ∙ kind_idle _ (sym (c.callback.ensures _) ∙ c.in-3.is) }
 
 -- a number that is no kind
 pub returns-in_default : goal.returns-in_default
@@ -26,6 +26,6 @@ returns-in_default c =
     record {
       is =
           λ k i.
-          let e = c.before.callback.ensures _ in
+          let e = c.callback.ensures _ in
           kind_other _ (λ z. n.0.0.0.1 (e ∙ z)) (λ z. n.0.0.1 (e ∙ z)) (λ z. n.0.1 (e ∙ z)) (λ z. n.1 (e ∙ z));
     }

@@ -17,21 +17,18 @@ loop-i-init c = (omega arith, λ words. refl)
 -- one byte more
 pub loop-i-preserved : goal.loop-i-preserved
 loop-i-preserved c =
-    let tested = c.before in
-    (omega arith, λ words. all_next _ _ (tested.spare_good.ensures.is words) (tested.before.before.loop-i.invariant.1 words) c.both-good.ensures)
+    (omega arith, λ words. all_next _ _ (c.spare_good.ensures.is words) (c.loop-i.invariant.1 words) c.both-good.ensures)
 
 -- all three are passed
 pub returns : goal.returns
 unfolding carried_test spare_test
 returns c =
-    let read = c.before in
-    let end = read.before in
-    let q = end.before.loop-i in
-    let bytes = end.before.before.args.bytes.now in
+    let q = c.loop-i in
+    let bytes = c.args.bytes.now in
     record {
       is =
           λ words.
-          rw (c.both.ensures, read.used.ensures words, all_done (spare_test (state_in bytes words).carry) 3 q.i q.invariant.0 end.loop-i-test.false (q.invariant.1 words));
+          rw (c.both.ensures, c.used.ensures words, all_done (spare_test (state_in bytes words).carry) 3 q.i q.invariant.0 c.loop-i-test.false (q.invariant.1 words));
     }
 
 pub overflow_add-i : goal.overflow_add-i

@@ -5,7 +5,4 @@ use Rattle.sound_callback.proofs.none_open.Goals as goal
 pub returns : goal.returns
 unfolding none_test
 returns c =
-    let a = c.before in
-    let b = a.before in
-    let all = b.before in
-    record { is = λ words. rw (c.both.ensures, a.asked.ensures words, b.both-none.ensures, all.all_steady.ensures.is words, all.before.target.ensures words) }
+    record { is = λ words. rw (c.both.ensures, c.asked.ensures words, c.both-none.ensures, c.all_steady.ensures.is words, c.target.ensures words) }

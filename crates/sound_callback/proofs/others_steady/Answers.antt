@@ -16,19 +16,18 @@ loop-q-init c = (omega arith, λ words. refl)
 -- one device more
 pub loop-q-preserved : goal.loop-q-preserved
 loop-q-preserved c =
-    let tested = c.before in
-    (omega arith, λ words. all_next _ _ (tested.other_steady.ensures.is words) (tested.before.before.loop-q.invariant.1 words) c.both-good.ensures)
+    (omega arith, λ words. all_next _ _ (c.other_steady.ensures.is words) (c.loop-q.invariant.1 words) c.both-good.ensures)
 
 -- all n are passed
 pub returns : goal.returns
 unfolding others_steady other_steady
 returns c =
-    let q = c.before.loop-q in
+    let q = c.loop-q in
     let t = c.loop-q-test.false in
     record {
       is =
           λ words.
-          let e = c.before.before.devices-n.ensures words in
+          let e = c.devices-n.ensures words in
           all_done _ _ _ (let l = q.invariant.0 in omega arith) (omega arith) (q.invariant.1 words);
     }
 

@@ -2,4 +2,4 @@
 use Rattle.sound_callback.proofs.sound.Goals as goal
 
 pub returns : goal.returns
-returns c = c.sound_by.ensures.is c.before.before.index-first.ensures
+returns c = c.sound_by.ensures.is c.index-first.ensures

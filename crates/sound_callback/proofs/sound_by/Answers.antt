@@ -1,5 +1,4 @@
 -- The columns are tested first; only where they pass is the index looked at, which is then right. Assumes nothing.
--- the columns fail
 use mathlib.Core.Path.{refl}
 use Rattle.model.specs.SoundTest.{sound_test}
 use Rattle.model.proofs.Basics.{never}
@@ -7,23 +6,21 @@ use Rattle.model.proofs.SoundTest.{kept_ordered}
 use Rattle.model.proofs.Chains.{and_stop, and_go, passed, failed}
 use Rattle.sound_callback.proofs.sound_by.Goals as goal
 
+-- the columns fail
 pub returns-then-not-well_kept : goal.returns-then-not-well_kept
 unfolding sound_test
-returns-then-not-well_kept c = record { is = λ i. and_stop _ (failed c.before.well_kept.ensures c.if-not-well_kept.true-raw); columns = λ e. never e refl }
+returns-then-not-well_kept c = record { is = λ i. and_stop _ (failed c.well_kept.ensures c.if-not-well_kept.true-raw); columns = λ e. never e refl }
 
 -- the carried bytes and the open callback
 pub returns : goal.returns
 unfolding sound_test
 returns c =
-    let judged = c.before in
-    let carried = judged.before in
-    let tested = carried.before in
-    let words = tested.before.before.args.words.now in
-    let e = passed tested.before.well_kept.ensures tested.if-not-well_kept.false-raw in
+    let words = c.args.words.now in
+    let e = passed c.well_kept.ensures c.if-not-well_kept.false-raw in
     record {
       is =
           λ i.
           let first = i.is (kept_ordered _ _ e).links in
-          and_go e (rw (carried.carried_good.ensures.is words, judged.callback_good.ensures.is e first) at c.both.ensures);
+          and_go e (rw (c.carried_good.ensures.is words, c.callback_good.ensures.is e first) at c.both.ensures);
       columns = λ t. e;
     }

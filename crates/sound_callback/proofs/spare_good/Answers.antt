@@ -1,23 +1,22 @@
 -- Both exits answer `leb used i implies byte i is 0`, by what the readers say of used and the byte. Assumes nothing.
--- byte i is used
 use Rattle.model.specs.Logic.{◌implies◌}
 use mathlib.Core.Path.{◌∙◌}
 use borrow.Author.Tests.{lt-leb, le-leb}
 use Rattle.sound_callback.specs.Parts.{spare_test}
 use Rattle.sound_callback.proofs.spare_good.Goals as goal
 
+-- byte i is used
 pub returns-then-i-row : goal.returns-then-i-row
 unfolding spare_test ◌implies◌
-returns-then-i-row c = record { is = λ words. let e = c.before.row.ensures.0 ∙ c.before.before.used.ensures words in rw (lt-leb _ _ (rw e at c.if-i-row.true)) }
+returns-then-i-row c = record { is = λ words. let e = c.row.ensures.0 ∙ c.used.ensures words in rw (lt-leb _ _ (rw e at c.if-i-row.true)) }
 
 -- byte i is not used
 pub returns : goal.returns
 unfolding spare_test ◌implies◌
 returns c =
-    let t = c.before in
     record {
       is =
           λ words.
-          let e = t.before.row.ensures.0 ∙ t.before.before.used.ensures words in
-          rw (le-leb _ _ (rw e at t.if-i-row.false), ← c.carried.ensures words);
+          let e = c.row.ensures.0 ∙ c.used.ensures words in
+          rw (le-leb _ _ (rw e at c.if-i-row.false), ← c.carried.ensures words);
     }

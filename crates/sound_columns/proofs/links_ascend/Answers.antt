@@ -9,21 +9,23 @@ pub loop-i-init : goal.loop-i-init
 loop-i-init c = (omega arith, says_none _)
 
 pub loop-i-preserved : goal.loop-i-preserved
-loop-i-preserved c = let one = c.before in (omega arith, says_next _ _ one.link_ascends.ensures one.before.before.loop-i.invariant.1 c.both-good.ensures)
+loop-i-preserved c = (omega arith, says_next _ _ c.link_ascends.ensures c.loop-i.invariant.1 c.both-good.ensures)
 
 pub returns : goal.returns
-returns c = says_done _ _ _ c.before.loop-i.invariant.0 (omega arith) c.before.loop-i.invariant.1
-
-unfolding LINKS
+returns c = says_done _ _ _ c.loop-i.invariant.0 (omega arith) c.loop-i.invariant.1
 
 pub overflow_add-i : goal.overflow_add-i
+unfolding LINKS
 overflow_add-i c = omega arith
 
 pub link_ascends-requires : goal.link_ascends-requires
-link_ascends-requires c κs = omega arith
+unfolding LINKS
+link_ascends-requires c = omega arith
 
 pub overflow_add-i-in-loop-i : goal.overflow_add-i-in-loop-i
+unfolding LINKS
 overflow_add-i-in-loop-i c = omega arith
 
 pub loop-i-smaller : goal.loop-i-smaller
+unfolding LINKS
 loop-i-smaller c = omega arith

@@ -1,18 +1,13 @@
 -- `sound_columns::recount_children` meets its contract. The invariant: the tallies of the devices passed. Assumes nothing.
--- the counts after k devices
 use mathlib.Core.Path.{◌≡◌, ◌∙◌, ap}
-use mathlib.Core.List.{List}
-use Prim.Native.Nat.{ℕ, ◌+◌, ◌-◌, ◌≤◌}
+use mathlib.Core.List.{[]}
+use Prim.Native.Nat.{◌+◌, ◌-◌, ◌≤◌}
 use native.Mathlib.Omega.{arith}
-use lib.ListN.{get_or}
 use Rattle.model.specs.Limits.{ROWS}
-use Rattle.model.specs.State.{State, is_child, children_of, child_count}
-use Rattle.model.proofs.Tallies.{Tallied, tallied_none, tallied_one, tallied_all, tallied_low}
+use Rattle.model.specs.State.{children_of, child_count}
+use Rattle.model.proofs.Tallies.{tallied_none, tallied_one, tallied_all, tallied_low}
 use Rattle.sound_columns.proofs.Reading.{child_low, child_adds, last}
 use Rattle.sound_columns.proofs.recount_children.Goals as goal
-
-abbrev Passed : State → ℕ → List ℕ → Type 0
-Passed s k counts = Tallied (is_child s.wiring s.devices.status) (λ j. get_or s.wiring.parent-parent j 0) ROWS k counts
 
 pub loop-k-init : goal.loop-k-init
 unfolding ROWS
@@ -22,41 +17,39 @@ loop-k-init c = (omega arith, λ words. tallied_none _ _ ROWS)
 pub overflow_add-counts : goal.overflow_add-counts
 unfolding ROWS
 overflow_add-counts c =
-    let bit = c.before in
-    let inv = bit.before.before.before.before.loop-k.invariant in
+    let inv = c.loop-k.invariant in
     let l = tallied_low (inv.1 []) c.row-q.result c.row-q.ensures.1 in
-    let b : bit.child_bit-bit.result ≤ 1 = rw bit.child_bit-bit.ensures (child_low _ _) in
+    let b : c.child_bit-bit.result ≤ 1 = rw c.child_bit-bit.ensures (child_low _ _) in
     omega arith
 
 pub loop-k-preserved : goal.loop-k-preserved
 unfolding ROWS
 loop-k-preserved c =
-    let bit = c.before in
-    let status = bit.before in
-    let parent = status.before in
-    let inv = parent.before.before.loop-k.invariant in (
+    let inv = c.loop-k.invariant in (
       omega arith,
       λ words.
-          tallied_one c.row-q.result _ (inv.1 words) (c.row-q.ensures.0 ∙ parent.parent-parent.ensures words) c.row-q.ensures.1
-          (ap (◌+◌ _) (child_adds _ _ _ (parent.parent-parent.ensures words) (status.status.ensures words) bit.child_bit-bit.ensures)),
+          tallied_one c.row-q.result _ (inv.1 words) (c.row-q.ensures.0 ∙ c.parent-parent.ensures words) c.row-q.ensures.1
+          (ap (◌+◌ _) (child_adds _ _ _ (c.parent-parent.ensures words) (c.status.ensures words) c.child_bit-bit.ensures)),
     )
 
 pub returns : goal.returns
 unfolding ROWS children_of child_count
 returns c =
-    let end = c.before.loop-k in
+    let end = c.loop-k in
     record { is = λ words e. let f : end.k ≡ _ = last _ _ _ end.invariant.0 (omega arith) e in tallied_all (rw f at (end.invariant.1 words)) }
 
-unfolding ROWS
-
 pub bounds-counts-q : goal.bounds-counts-q
+unfolding ROWS
 bounds-counts-q c = omega arith
 
 pub bounds-counts-q-in-loop-k : goal.bounds-counts-q-in-loop-k
+unfolding ROWS
 bounds-counts-q-in-loop-k c = omega arith
 
 pub overflow_add-k : goal.overflow_add-k
+unfolding ROWS
 overflow_add-k c = omega arith
 
 pub loop-k-smaller : goal.loop-k-smaller
+unfolding ROWS
 loop-k-smaller c = omega arith

@@ -11,4 +11,4 @@ pub returns : goal.returns
 unfolding ROWS
 returns c =
     c.both.ensures
-    ∙ rw (c.before.before.bytes_low-used.ensures, c.before.bytes_low.ensures) (column_cut ROWS _ _ _ (device_row _ ROWS BYTEPAGES _ (omega arith)))
+    ∙ rw (c.bytes_low-used.ensures, c.bytes_low.ensures) (column_cut ROWS _ _ _ (device_row _ ROWS BYTEPAGES _ (omega arith)))

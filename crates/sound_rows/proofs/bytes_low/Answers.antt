@@ -9,12 +9,11 @@ loop-p-init c = (omega arith, (omega arith, low_none _ _ _))
 
 pub loop-p-preserved : goal.loop-p-preserved
 loop-p-preserved c =
-    let read = c.before in
-    let inv = read.before.before.loop-p.invariant in
-    (omega arith, (omega arith, low_next _ _ _ _ inv.0 read.byte_at.ensures inv.1.1 c.both-good.ensures))
+    let inv = c.loop-p.invariant in
+    (omega arith, (omega arith, low_next _ _ _ _ inv.0 c.byte_at.ensures inv.1.1 c.both-good.ensures))
 
 pub returns : goal.returns
-returns c = let inv = c.before.loop-p.invariant in low_done _ _ _ _ _ inv.0 inv.1.0 (omega arith) inv.1.1
+returns c = let inv = c.loop-p.invariant in low_done _ _ _ _ _ inv.0 inv.1.0 (omega arith) inv.1.1
 
 pub overflow_add-p : goal.overflow_add-p
 overflow_add-p c = omega arith

@@ -10,8 +10,8 @@ returns-then-status-lt-ACTIVE c = simp (lt-leb _ _ c.if-status-lt-ACTIVE.true)
 
 pub returns-then-parent-eq-NONE : goal.returns-then-parent-eq-NONE
 unfolding child_bit ◌and◌
-returns-then-parent-eq-NONE c = simp (le-leb _ _ c.before.if-status-lt-ACTIVE.false, eq-eqb _ _ c.if-parent-eq-NONE.true)
+returns-then-parent-eq-NONE c = simp (le-leb _ _ c.if-status-lt-ACTIVE.false, eq-eqb _ _ c.if-parent-eq-NONE.true)
 
 pub returns : goal.returns
 unfolding child_bit ◌and◌
-returns c = simp (le-leb _ _ c.before.if-status-lt-ACTIVE.false, ne_eqb _ _ c.if-parent-eq-NONE.false)
+returns c = simp (le-leb _ _ c.if-status-lt-ACTIVE.false, ne_eqb _ _ c.if-parent-eq-NONE.false)

@@ -10,8 +10,8 @@ returns-then-c-c2 c = simp (lt-ltb _ _ c.if-c-c2.true)
 
 pub returns-then-c-c2-2 : goal.returns-then-c-c2-2
 unfolding before ◌and◌ ◌or◌
-returns-then-c-c2-2 c = simp (le-ltb _ _ c.before.if-c-c2.false, eq-eqb _ _ c.if-c-c2-2.true)
+returns-then-c-c2-2 c = simp (le-ltb _ _ c.if-c-c2.false, eq-eqb _ _ c.if-c-c2-2.true)
 
 pub returns : goal.returns
 unfolding before ◌and◌ ◌or◌
-returns c = simp (le-ltb _ _ c.before.if-c-c2.false, ne_eqb _ _ c.if-c-c2-2.false)
+returns c = simp (le-ltb _ _ c.if-c-c2.false, ne_eqb _ _ c.if-c-c2-2.false)

@@ -10,4 +10,4 @@ pub returns : goal.returns
 unfolding LINKS
 returns c =
     c.both.ensures
-    ∙ rw (c.before.before.links_low-used.ensures, c.before.links_low.ensures) (column_cut LINKS _ _ _ (link_row _ LINKS _ (omega arith)))
+    ∙ rw (c.links_low-used.ensures, c.links_low.ensures) (column_cut LINKS _ _ _ (link_row _ LINKS _ (omega arith)))

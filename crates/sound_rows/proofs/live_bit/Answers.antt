@@ -12,8 +12,8 @@ returns-then-status-lt-ACTIVE c = simp (lt-leb _ _ c.if-status-lt-ACTIVE.true)
 
 pub returns-then-flags-eq0 : goal.returns-then-flags-eq0
 unfolding live_bit ◌and◌
-returns-then-flags-eq0 c = simp (le-leb _ _ c.before.if-status-lt-ACTIVE.false, ne_eqb (c.before.before.args.flags % 2) 1 (λ z. omega arith))
+returns-then-flags-eq0 c = simp (le-leb _ _ c.if-status-lt-ACTIVE.false, ne_eqb (c.args.flags % 2) 1 (λ z. omega arith))
 
 pub returns : goal.returns
 unfolding live_bit ◌and◌
-returns c = simp (le-leb _ _ c.before.if-status-lt-ACTIVE.false, eq-eqb (c.before.before.args.flags % 2) 1 (omega arith))
+returns c = simp (le-leb _ _ c.if-status-lt-ACTIVE.false, eq-eqb (c.args.flags % 2) 1 (omega arith))

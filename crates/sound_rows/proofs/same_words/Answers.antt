@@ -15,23 +15,24 @@ loop-p-init c = (omega arith, refl)
 pub loop-p-preserved : goal.loop-p-preserved
 unfolding ROWS
 loop-p-preserved c =
-    let read = c.before.before in
-    (omega arith, all_next _ _ (eqb_of read.word_at.ensures refl) read.before.before.loop-p.invariant.1 c.both-good.ensures)
+    (omega arith, all_next _ _ (eqb_of c.word_at.ensures refl) c.loop-p.invariant.1 c.both-good.ensures)
 
 pub returns : goal.returns
 unfolding ROWS same_test
-returns c = all_done _ ROWS _ c.before.loop-p.invariant.0 (omega arith) c.before.loop-p.invariant.1
-
-unfolding ROWS
+returns c = all_done _ ROWS _ c.loop-p.invariant.0 (omega arith) c.loop-p.invariant.1
 
 pub offset_bounds-col-p : goal.offset_bounds-col-p
+unfolding ROWS
 offset_bounds-col-p c = omega arith
 
 pub bounds-col-p : goal.bounds-col-p
+unfolding ROWS
 bounds-col-p c = omega arith
 
 pub overflow_add-p : goal.overflow_add-p
+unfolding ROWS
 overflow_add-p c = omega arith
 
 pub loop-p-smaller : goal.loop-p-smaller
+unfolding ROWS
 loop-p-smaller c = omega arith

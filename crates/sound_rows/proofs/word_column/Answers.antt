@@ -11,4 +11,4 @@ pub returns : goal.returns
 unfolding ROWS
 returns c =
     c.both.ensures
-    ∙ rw (c.before.before.words_low-used.ensures, c.before.words_low.ensures) (column_cut ROWS _ _ _ (device_row _ ROWS WORDPAGES _ (omega arith)))
+    ∙ rw (c.words_low-used.ensures, c.words_low.ensures) (column_cut ROWS _ _ _ (device_row _ ROWS WORDPAGES _ (omega arith)))

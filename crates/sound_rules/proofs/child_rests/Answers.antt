@@ -11,12 +11,12 @@ returns-then-status-eq-SUSPENDED c = simp (eq-eqb _ SUSPENDED c.if-status-eq-SUS
 
 pub returns-then-parent-eq-NONE : goal.returns-then-parent-eq-NONE
 unfolding child_rests ◌or◌ ◌implies◌
-returns-then-parent-eq-NONE c = simp (ne_eqb _ _ c.before.if-status-eq-SUSPENDED.false, eq-eqb _ _ c.if-parent-eq-NONE.true)
+returns-then-parent-eq-NONE c = simp (ne_eqb _ _ c.if-status-eq-SUSPENDED.false, eq-eqb _ _ c.if-parent-eq-NONE.true)
 
 pub returns-then-ignore-ne0 : goal.returns-then-ignore-ne0
 unfolding child_rests ◌or◌ ◌implies◌
-returns-then-ignore-ne0 c = simp (ne_eqb _ _ c.before.before.if-status-eq-SUSPENDED.false, ne_eqb _ _ c.before.if-parent-eq-NONE.false, ne_eqb _ _ c.if-ignore-ne0.true)
+returns-then-ignore-ne0 c = simp (ne_eqb _ _ c.if-status-eq-SUSPENDED.false, ne_eqb _ _ c.if-parent-eq-NONE.false, ne_eqb _ _ c.if-ignore-ne0.true)
 
 pub returns : goal.returns
 unfolding child_rests ◌or◌ ◌implies◌
-returns c = simp (ne_eqb _ _ c.before.before.if-status-eq-SUSPENDED.false, ne_eqb _ _ c.before.if-parent-eq-NONE.false, eq-eqb _ _ c.if-ignore-ne0.false)
+returns c = simp (ne_eqb _ _ c.if-status-eq-SUSPENDED.false, ne_eqb _ _ c.if-parent-eq-NONE.false, eq-eqb _ _ c.if-ignore-ne0.false)

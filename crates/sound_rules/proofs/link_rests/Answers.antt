@@ -13,8 +13,8 @@ returns-then-consumer-eq-SUSPENDED c = simp (eq-eqb _ SUSPENDED c.if-consumer-eq
 
 pub returns-then-flags-eq0 : goal.returns-then-flags-eq0
 unfolding link_rests ◌or◌ ◌implies◌
-returns-then-flags-eq0 c = simp (ne_eqb _ _ c.before.if-consumer-eq-SUSPENDED.false, ne_eqb (c.before.before.args.flags % 2) 1 (λ z. omega arith))
+returns-then-flags-eq0 c = simp (ne_eqb _ _ c.if-consumer-eq-SUSPENDED.false, ne_eqb (c.args.flags % 2) 1 (λ z. omega arith))
 
 pub returns : goal.returns
 unfolding link_rests ◌or◌ ◌implies◌
-returns c = simp (ne_eqb _ _ c.before.if-consumer-eq-SUSPENDED.false, eq-eqb (c.before.before.args.flags % 2) 1 (omega arith))
+returns c = simp (ne_eqb _ _ c.if-consumer-eq-SUSPENDED.false, eq-eqb (c.args.flags % 2) 1 (omega arith))

@@ -11,18 +11,15 @@ loop-i-init c = (omega arith, says_none _)
 
 pub loop-i-preserved : goal.loop-i-preserved
 unfolding ends_fit
-loop-i-preserved c =
-    let test = c.before in
-    let supplier = test.before in
-    let consumer = supplier.before in (
-      omega arith,
-      says_next (ends_fit _) _
-          (record { is = λ words. test.ends_good.ensures ∙ rw (consumer.consumer.ensures words, supplier.supplier.ensures words) })
-          consumer.before.before.loop-i.invariant.1 c.both-good.ensures,
-    )
+loop-i-preserved c = (
+  omega arith,
+  says_next (ends_fit _) _
+      (record { is = λ words. c.ends_good.ensures ∙ rw (c.consumer.ensures words, c.supplier.ensures words) })
+      c.loop-i.invariant.1 c.both-good.ensures,
+)
 
 pub returns : goal.returns
-returns c = says_done _ _ _ c.before.loop-i.invariant.0 (omega arith) c.before.loop-i.invariant.1
+returns c = says_done _ _ _ c.loop-i.invariant.0 (omega arith) c.loop-i.invariant.1
 
 pub overflow_add-i : goal.overflow_add-i
 overflow_add-i c = omega arith

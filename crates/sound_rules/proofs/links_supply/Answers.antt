@@ -9,10 +9,10 @@ pub loop-i-init : goal.loop-i-init
 loop-i-init c = (omega arith, says_none _)
 
 pub loop-i-preserved : goal.loop-i-preserved
-loop-i-preserved c = let one = c.before in (omega arith, says_next _ _ one.link_supplies.ensures one.before.before.loop-i.invariant.1 c.both-good.ensures)
+loop-i-preserved c = (omega arith, says_next _ _ c.link_supplies.ensures c.loop-i.invariant.1 c.both-good.ensures)
 
 pub returns : goal.returns
-returns c = says_done _ _ _ c.before.loop-i.invariant.0 (omega arith) c.before.loop-i.invariant.1
+returns c = says_done _ _ _ c.loop-i.invariant.0 (omega arith) c.loop-i.invariant.1
 
 pub overflow_add-i : goal.overflow_add-i
 overflow_add-i c = omega arith

@@ -4,13 +4,9 @@ use Rattle.sound_rules.proofs.parent_supplies.Goals as goal
 
 pub returns : goal.returns
 returns c =
-    let up = c.before in
-    let ignore = up.before in
-    let status = ignore.before in
-    let parent = status.before in
     record {
       is =
           λ words.
-          rests_at _ _ _ (status.status.ensures words) (parent.parent-q.ensures words) (ignore.ignore.ensures words) (up.status-2.ensures words)
+          rests_at _ _ _ (c.status.ensures words) (c.parent-q.ensures words) (c.ignore.ensures words) (c.status-2.ensures words)
           c.child_rests.ensures;
     }

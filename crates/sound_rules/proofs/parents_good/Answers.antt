@@ -11,16 +11,14 @@ loop-p-init c = (omega arith, says_none _)
 
 pub loop-p-preserved : goal.loop-p-preserved
 unfolding parent_fits
-loop-p-preserved c =
-    let test = c.before in
-    let read = test.before in (
-      omega arith,
-      says_next parent_fits _ (record { is = λ words. test.parent_good.ensures ∙ rw (read.parent.ensures words) }) read.before.before.loop-p.invariant.1
-          c.both-good.ensures,
-    )
+loop-p-preserved c = (
+  omega arith,
+  says_next parent_fits _ (record { is = λ words. c.parent_good.ensures ∙ rw (c.parent.ensures words) }) c.loop-p.invariant.1
+      c.both-good.ensures,
+)
 
 pub returns : goal.returns
-returns c = says_done _ _ _ c.before.loop-p.invariant.0 (omega arith) c.before.loop-p.invariant.1
+returns c = says_done _ _ _ c.loop-p.invariant.0 (omega arith) c.loop-p.invariant.1
 
 pub overflow_add-p : goal.overflow_add-p
 overflow_add-p c = omega arith

@@ -9,10 +9,10 @@ pub loop-p-init : goal.loop-p-init
 loop-p-init c = (omega arith, says_none _)
 
 pub loop-p-preserved : goal.loop-p-preserved
-loop-p-preserved c = let one = c.before in (omega arith, says_next _ _ one.parent_supplies.ensures one.before.before.loop-p.invariant.1 c.both-good.ensures)
+loop-p-preserved c = (omega arith, says_next _ _ c.parent_supplies.ensures c.loop-p.invariant.1 c.both-good.ensures)
 
 pub returns : goal.returns
-returns c = says_done _ _ _ c.before.loop-p.invariant.0 (omega arith) c.before.loop-p.invariant.1
+returns c = says_done _ _ _ c.loop-p.invariant.0 (omega arith) c.loop-p.invariant.1
 
 pub overflow_add-p : goal.overflow_add-p
 overflow_add-p c = omega arith

@@ -1,6 +1,5 @@
 -- `state_file::keep` meets its contract: a saving into a buffer of the form's length is the form, or is refused since the bench is not sound.
 -- Assumes nothing.
--- ---- places: the answer, the saving, and the start of the call
 use mathlib.Core.Path.{◌≡◌, refl, sym, ◌∙◌}
 use mathlib.Core.List.{List}
 use Prim.Native.Nat.{ℕ}
@@ -12,19 +11,14 @@ use Rattle.memory.specs.Layout.{BYTES, WORDS}
 use Rattle.saved_form.specs.Form.{FORM}
 use Rattle.state_file.proofs.Keeping.{sound_saved, unsound_refused, form_saved}
 use Rattle.state_file.proofs.keep.Goals as goal
-
-abbrev saving : goal.After-save_number-number → goal.After-save-saving
-saving n = n.before.before
-
-abbrev begun : goal.After-save-saving → goal.Start
-begun s = s.before.before.before.before
+use Rattle.state_file.proofs.keep.Goals.{Start}
 
 -- the arrays of a bench have their lengths by its type
-many_bytes : (c : goal.Start) → length c.args.bench.bytes-1 ≡ BYTES
+many_bytes : (c : Start) → length c.args.bench.bytes ≡ BYTES
 unfolding BYTES ROWS LINKS
 many_bytes c = let g = c.well_formed.1.0 in search rules
 
-many_words : (c : goal.Start) → length c.args.bench.words ≡ WORDS
+many_words : (c : Start) → length c.args.bench.words ≡ WORDS
 unfolding WORDS ROWS
 many_words c = let g = c.well_formed.1.0 in search rules
 
@@ -45,34 +39,28 @@ returns-then-task-eq0 c =
 pub returns-then-number-ne0 : goal.returns-then-number-ne0
 unfolding FORM BYTES WORDS ROWS LINKS
 returns-then-number-ne0 c =
-    let tested = c.before in
-    let s = saving tested.before in
-    let bench = (begun s).args.bench in
-    let number = tested.before.save_number-number.ensures in
+    let bench = c.args.bench in
+    let number = c.save_number-number.ensures in
     record {
-      unasked = λ e. absurd (s.before.before.if-task-eq0.left e);
-      sound = λ n t. absurd (tested.if-number-ne0.true (number ∙ sound_saved bench buffer room s.save-saving.result s.save-saving.ensures t));
+      unasked = λ e. absurd (c.if-task-eq0.left e);
+      sound = λ n t. absurd (c.if-number-ne0.true (number ∙ sound_saved bench buffer room c.save-saving.result c.save-saving.ensures t));
       unsound = λ n t. refl;
     }
 
 pub named-requires : goal.named-requires
 unfolding FORM BYTES WORDS ROWS LINKS
-named-requires c κs =
-    let tested = c.before in
-    let s = saving tested.before in
-    let z = sym tested.before.save_number-number.ensures ∙ tested.if-number-ne0.false in
-    form_saved (begun s).args.bench buffer room s.save-saving.result s.save-saving.ensures (many_bytes (begun s)) (many_words (begun s)) z
+named-requires c =
+    let z = sym c.save_number-number.ensures ∙ c.if-number-ne0.false in
+    form_saved c.args.bench buffer room c.save-saving.result c.save-saving.ensures (many_bytes (goal.at.named-requires c).Start (many_words (goal.at.named-requires c).Start z
 
 -- the bench is saved, or a file fails
 pub returns : goal.returns
 unfolding FORM BYTES WORDS ROWS LINKS
 returns c =
-    let tested = c.before.before in
-    let s = saving tested.before in
-    let bench = (begun s).args.bench in
-    let z = sym tested.before.save_number-number.ensures ∙ tested.if-number-ne0.false in
+    let bench = c.args.bench in
+    let z = sym c.save_number-number.ensures ∙ c.if-number-ne0.false in
     record {
-      unasked = λ e. absurd (s.before.before.if-task-eq0.left e);
+      unasked = λ e. absurd (c.if-task-eq0.left e);
       sound = λ n t. c.named.ensures;
-      unsound = λ n t. let x = unsound_refused bench buffer room s.save-saving.result s.save-saving.ensures t in absurd (omega arith);
+      unsound = λ n t. let x = unsound_refused bench buffer room c.save-saving.result c.save-saving.ensures t in absurd (omega arith);
     }

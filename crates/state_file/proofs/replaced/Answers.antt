@@ -1,5 +1,4 @@
 -- `state_file::replaced` meets its contract: each exit is one of the two ends. Assumes nothing.
--- the new file cannot be made, has taken the place of the old one, or is removed
 use mathlib.Core.Path.{refl}
 use mathlib.Core.Logic.{inl, inr}
 use Rattle.state_file.proofs.replaced.Goals as goal

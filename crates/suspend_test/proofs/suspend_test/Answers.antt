@@ -6,15 +6,7 @@ use Rattle.suspend_test.proofs.suspend_test.Goals as goal
 pub returns : goal.returns
 unfolding suspend_test has_children
 returns c =
-    let failed = c.before in
-    let off = failed.before in
-    let deep = off.before in
-    let used = deep.before in
-    let counted = used.before in
-    let linked = counted.before in
-    let held = linked.before in
-    let needed = held.before in
-    let w = needed.before.before.args.words.now in
-    let b = needed.before.before.args.bytes.now in
-    rw (c.choose.ensures, failed.error.ensures b, off.choose-off.ensures, deep.depth.ensures w, used.choose-used.ensures)
-    (rw (counted.usage.ensures, linked.linked.ensures b, held.holds.ensures b, needed.choose-needed.ensures, needed.before.has_children.ensures w))
+    let w = c.args.words.now in
+    let b = c.args.bytes.now in
+    rw (c.choose.ensures, c.error.ensures b, c.choose-off.ensures, c.depth.ensures w, c.choose-used.ensures)
+    (rw (c.usage.ensures, c.linked.ensures b, c.holds.ensures b, c.choose-needed.ensures, c.has_children.ensures w))

@@ -1,10 +1,10 @@
 -- `table::comes_before` meets its contract: each exit is one branch of `before`. Assumes nothing.
--- the consumer is lower
 use borrow.Author.Tests.{lt-ltb, le-ltb, eq-eqb, ne_eqb}
 use Rattle.model.specs.Logic.{◌and◌, ◌or◌}
 use Rattle.model.specs.Table.{before}
 use Rattle.table.proofs.comes_before.Goals as goal
 
+-- the consumer is lower
 pub returns-then-c-c2 : goal.returns-then-c-c2
 unfolding before ◌and◌ ◌or◌
 returns-then-c-c2 c = simp (lt-ltb _ _ c.if-c-c2.true)
@@ -12,9 +12,9 @@ returns-then-c-c2 c = simp (lt-ltb _ _ c.if-c-c2.true)
 -- the same consumer: the suppliers tell
 pub returns-then-c-c2-2 : goal.returns-then-c-c2-2
 unfolding before ◌and◌ ◌or◌
-returns-then-c-c2-2 c = simp (le-ltb _ _ c.before.if-c-c2.false, eq-eqb _ _ c.if-c-c2-2.true)
+returns-then-c-c2-2 c = simp (le-ltb _ _ c.if-c-c2.false, eq-eqb _ _ c.if-c-c2-2.true)
 
 -- the consumer is higher
 pub returns : goal.returns
 unfolding before ◌and◌ ◌or◌
-returns c = simp (le-ltb _ _ c.before.if-c-c2.false, ne_eqb _ _ c.if-c-c2-2.false)
+returns c = simp (le-ltb _ _ c.if-c-c2.false, ne_eqb _ _ c.if-c-c2-2.false)

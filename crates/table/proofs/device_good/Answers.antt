@@ -1,22 +1,17 @@
 -- `table::device_good` meets its contract: the bytes read and the test of the parent are those of `device_good`. Assumes nothing.
--- the parent is wrong
 use borrow.Author.Tests.{not-true, not-false}
 use Rattle.model.specs.Logic.{◌and◌}
 use Rattle.model.specs.Table.{device_good}
 use Rattle.table.proofs.device_good.Goals as goal
 
+-- the parent is wrong
 pub returns-then-not-parent_good : goal.returns-then-not-parent_good
 unfolding device_good ◌and◌
 returns-then-not-parent_good c =
-    let tested = c.before in
-    let read = tested.before in
-    rw (← read.device_byte.ensures, ← tested.parent_good.ensures, not-true tested.parent_good.result c.if-not-parent_good.true-raw)
+    rw (← c.device_byte.ensures, ← c.parent_good.ensures, not-true c.parent_good.result c.if-not-parent_good.true-raw)
 
 -- the flag tells
 pub returns : goal.returns
 unfolding device_good ◌and◌
 returns c =
-    let passed = c.before in
-    let tested = passed.before in
-    let read = tested.before in
-    rw (← read.device_byte.ensures, ← tested.parent_good.ensures, not-false tested.parent_good.result passed.if-not-parent_good.false-raw, ← c.device_byte-2.ensures)
+    rw (← c.device_byte.ensures, ← c.parent_good.ensures, not-false c.parent_good.result c.if-not-parent_good.false-raw, ← c.device_byte-2.ensures)

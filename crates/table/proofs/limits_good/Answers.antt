@@ -1,27 +1,23 @@
 -- `table::limits_good` meets its contract: each exit is one branch of `limits_good`. Assumes nothing.
--- no device
 use borrow.Author.Tests.{lt-leb, le-leb}
 use Rattle.model.specs.Limits.{DEVICES, LINKS}
 use Rattle.model.specs.Logic.{◌and◌}
 use Rattle.model.specs.Table.{limits_good}
 use Rattle.table.proofs.limits_good.Goals as goal
 
+-- no device
 pub returns-then-n-lt1 : goal.returns-then-n-lt1
 unfolding limits_good ◌and◌
-returns-then-n-lt1 c = rw (← c.before.byte_at-n.ensures, lt-leb _ _ c.if-n-lt1.true)
+returns-then-n-lt1 c = rw (← c.byte_at-n.ensures, lt-leb _ _ c.if-n-lt1.true)
 
 -- too many devices
 pub returns-then-n-gt-DEVICES : goal.returns-then-n-gt-DEVICES
 unfolding limits_good DEVICES ◌and◌
 returns-then-n-gt-DEVICES c =
-    let read = c.before.before in
-    rw (← read.byte_at-n.ensures, le-leb _ _ c.before.if-n-lt1.false, lt-leb read.byte_at-n.result DEVICES c.if-n-gt-DEVICES.true)
+    rw (← c.byte_at-n.ensures, le-leb _ _ c.if-n-lt1.false, lt-leb c.byte_at-n.result DEVICES c.if-n-gt-DEVICES.true)
 
 -- the links are within their limit, or not
 pub returns : goal.returns
 unfolding limits_good DEVICES LINKS ◌and◌
 returns c =
-    let few = c.before.before in
-    let some = few.before in
-    let read = some.before in
-    rw (← read.byte_at-n.ensures, le-leb _ _ some.if-n-lt1.false, le-leb _ _ few.if-n-gt-DEVICES.false, c.wide8.ensures, c.before.byte_at.ensures)
+    rw (← c.byte_at-n.ensures, le-leb _ _ c.if-n-lt1.false, le-leb _ _ c.if-n-gt-DEVICES.false, c.wide8.ensures, c.byte_at.ensures)

@@ -1,29 +1,22 @@
 -- `table::mark_good` meets its contract: each exit is one branch of `mark_good`. Assumes nothing.
--- the first letter is wrong
 use borrow.Author.Tests.{eq-eqb, ne_eqb}
 use Rattle.model.specs.Logic.{◌and◌}
 use Rattle.model.specs.Table.{mark_good}
 use Rattle.table.proofs.mark_good.Goals as goal
 
+-- the first letter is wrong
 pub returns-then-byte_at-ne84 : goal.returns-then-byte_at-ne84
 unfolding mark_good ◌and◌
-returns-then-byte_at-ne84 c = rw (← c.before.byte_at.ensures, ne_eqb _ _ c.if-byte_at-ne84.true)
+returns-then-byte_at-ne84 c = rw (← c.byte_at.ensures, ne_eqb _ _ c.if-byte_at-ne84.true)
 
 -- the second letter is wrong
 pub returns-then-byte_at-ne87 : goal.returns-then-byte_at-ne87
 unfolding mark_good ◌and◌
 returns-then-byte_at-ne87 c =
-    let second = c.before in
-    let passed = second.before in
-    let first = passed.before in
-    rw (← first.byte_at.ensures, eq-eqb _ _ passed.if-byte_at-ne84.false, ← second.byte_at-2.ensures, ne_eqb _ _ c.if-byte_at-ne87.true)
+    rw (← c.byte_at.ensures, eq-eqb _ _ c.if-byte_at-ne84.false, ← c.byte_at-2.ensures, ne_eqb _ _ c.if-byte_at-ne87.true)
 
 -- the third letter tells
 pub returns : goal.returns
 unfolding mark_good ◌and◌
 returns c =
-    let both = c.before in
-    let second = both.before in
-    let passed = second.before in
-    let first = passed.before in
-    rw (← first.byte_at.ensures, eq-eqb _ _ passed.if-byte_at-ne84.false, ← second.byte_at-2.ensures, eq-eqb _ _ both.if-byte_at-ne87.false, ← c.byte_at-3.ensures)
+    rw (← c.byte_at.ensures, eq-eqb _ _ c.if-byte_at-ne84.false, ← c.byte_at-2.ensures, eq-eqb _ _ c.if-byte_at-ne87.false, ← c.byte_at-3.ensures)

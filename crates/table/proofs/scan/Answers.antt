@@ -8,23 +8,16 @@ use borrow.Author.Tests.{not-true, not-false}
 use Rattle.model.specs.Table.{link_fits}
 use Rattle.table.proofs.Scanning.{pass_device, pass_link, good_link, misfit, descends, stop_device, stop_link, stop_end}
 use Rattle.table.proofs.scan.Goals as goal
-
--- the turn at which a link is read
-abbrev turn : goal.Else-links-i → goal.At-entries
-turn c = c.before.before
-
--- the table
-abbrev table : goal.At-entries → List ℕ
-table c = c.before.before.before.before.args.t.now
+use Rattle.table.proofs.scan.Goals.{Else-not-link_fits}
 
 -- that link fits
-fits : (c : goal.Else-not-link_fits) → let at = turn c.before.before in link_fits (table at) at.entries.i ≡ true
-fits c = sym c.before.link_fits.ensures ∙ not-false c.before.link_fits.result c.if-not-link_fits.false-raw
+fits : (c : Else-not-link_fits) → link_fits (at.args.t.now) c.entries.i ≡ true
+fits c = sym c.link_fits.ensures ∙ not-false c.link_fits.result c.if-not-link_fits.false-raw
 
 pub entries-init : goal.entries-init
 entries-init c =
     record {
-      devices_are = c.before.byte_at-devices.ensures;
+      devices_are = c.byte_at-devices.ensures;
       links_are = c.byte_at-links.ensures;
       few = omega arith;
       few_links = omega arith;
@@ -41,10 +34,8 @@ entries-smaller-then-p-devices c = omega arith
 -- a good device
 pub entries-preserved-then-p-devices : goal.entries-preserved-then-p-devices
 entries-preserved-then-p-devices c =
-    let tested = c.before in
-    let more = tested.before in
-    let good = sym tested.device_good.ensures ∙ not-false tested.device_good.result c.if-not-device_good.false-raw in
-    pass_device more.before.entries.invariant more.if-p-devices.true good
+    let good = sym c.device_good.ensures ∙ not-false c.device_good.result c.if-not-device_good.false-raw in
+    pass_device c.entries.invariant c.if-p-devices.true good
 
 pub overflow_add-i : goal.overflow_add-i
 overflow_add-i c = omega arith
@@ -55,37 +46,27 @@ entries-smaller c = omega arith
 -- a good link
 pub entries-preserved : goal.entries-preserved
 entries-preserved c =
-    let compared = c.before in
-    let passed = compared.before in
-    let more = passed.before.before in
-    let rises = sym compared.link_ascends.ensures ∙ not-false compared.link_ascends.result c.if-not-link_ascends.false-raw in
-    pass_link (turn more).entries.invariant more.if-links-i.false (good_link _ _ (fits passed) rises)
+    let rises = sym c.link_ascends.ensures ∙ not-false c.link_ascends.result c.if-not-link_ascends.false-raw in
+    pass_link c.entries.invariant c.if-links-i.false (good_link _ _ (fits (goal.at.entries-preserved c).Else-not-link_fits rises)
 
 -- a device is refused
 pub returns-then-not-device_good : goal.returns-then-not-device_good
 returns-then-not-device_good c =
-    let tested = c.before in
-    let more = tested.before in
-    let bad = sym tested.device_good.ensures ∙ not-true tested.device_good.result c.if-not-device_good.true-raw in
-    stop_device more.before.entries.invariant more.if-p-devices.true bad
+    let bad = sym c.device_good.ensures ∙ not-true c.device_good.result c.if-not-device_good.true-raw in
+    stop_device c.entries.invariant c.if-p-devices.true bad
 
 -- every entry is good
 pub returns-then-links-i : goal.returns-then-links-i
-returns-then-links-i c = stop_end c.before.before.entries.invariant c.before.if-p-devices.false c.if-links-i.true
+returns-then-links-i c = stop_end c.entries.invariant c.if-p-devices.false c.if-links-i.true
 
 -- a link is refused for its entry
 pub returns-then-not-link_fits : goal.returns-then-not-link_fits
 returns-then-not-link_fits c =
-    let tested = c.before in
-    let more = tested.before in
-    let bad = sym tested.link_fits.ensures ∙ not-true tested.link_fits.result c.if-not-link_fits.true-raw in
-    stop_link (turn more).entries.invariant more.before.if-p-devices.false more.if-links-i.false (misfit _ _ bad)
+    let bad = sym c.link_fits.ensures ∙ not-true c.link_fits.result c.if-not-link_fits.true-raw in
+    stop_link c.entries.invariant c.if-p-devices.false c.if-links-i.false (misfit _ _ bad)
 
 -- a link is refused for its place in the order
 pub returns-then-not-link_ascends : goal.returns-then-not-link_ascends
 returns-then-not-link_ascends c =
-    let compared = c.before in
-    let passed = compared.before in
-    let more = passed.before.before in
-    let falls = sym compared.link_ascends.ensures ∙ not-true compared.link_ascends.result c.if-not-link_ascends.true-raw in
-    stop_link (turn more).entries.invariant more.before.if-p-devices.false more.if-links-i.false (descends _ _ (fits passed) falls)
+    let falls = sym c.link_ascends.ensures ∙ not-true c.link_ascends.result c.if-not-link_ascends.true-raw in
+    stop_link c.entries.invariant c.if-p-devices.false c.if-links-i.false (descends _ _ (fits (goal.at.returns-then-not-link_ascends c).Else-not-link_fits falls)

@@ -4,4 +4,4 @@ use lib.ListN.{get_or-eq_default}
 use Rattle.table_entries.proofs.byte_at.Goals as goal
 
 pub returns-else-k-t : goal.returns-else-k-t
-returns-else-k-t c = sym (get_or-eq_default c.before.args.t.now 0 c.if-k-t.false)
+returns-else-k-t c = sym (get_or-eq_default c.args.t.now 0 c.if-k-t.false)

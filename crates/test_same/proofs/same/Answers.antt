@@ -20,7 +20,4 @@ module _ {a b : Bench} {r x y : Bool} where
 
 pub returns : goal.returns
 returns c =
-    let words = c.before in
-    let second = words.before.before.before.before in
-    let bytes = second.before.before.before in
-    told c.both.ensures bytes.same-bytes.ensures words.same_words-words.ensures
+    told c.both.ensures c.same-bytes.ensures c.same_words-words.ensures

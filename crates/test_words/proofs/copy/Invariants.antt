@@ -5,7 +5,7 @@ use lib.ListN.{length}
 use Rattle.test_words.proofs.copy.Given as goal
 
 abbrev pub invariant-loop-k : goal.invariant-loop-k
-invariant-loop-k l = (l.initial.out ≡ length l.group / 2) × (length l.out ≡ length l.at)
+invariant-loop-k l = (l.size ≡ length l.group / 2) × (length l.out ≡ length l.initial.out)
 
 abbrev pub decreases-loop-k : goal.decreases-loop-k
-decreases-loop-k l = l.initial.out - l.k
+decreases-loop-k l = l.size - l.k

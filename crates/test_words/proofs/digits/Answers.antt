@@ -8,16 +8,15 @@ use Rattle.test_words.proofs.digits.Goals as goal
 
 pub loop-i-preserved : goal.loop-i-preserved
 loop-i-preserved c =
-    let head = c.before.before.before.before in
-    let s = head.before.before.args.s.now in
-    let read = rw c.before.digit.ensures at c.joined-v.ensures in
-    (rw c.joined-v.ensures (joined_low _ _), rw read (value_on s head.loop-i.i head.loop-i.v c.before.before.before.loop-i-test.true) ∙ head.loop-i.invariant.1)
+    let s = c.args.s.now in
+    let read = rw c.digit.ensures at c.joined-v.ensures in
+    (rw c.joined-v.ensures (joined_low _ _), rw read (value_on s c.loop-i.i c.loop-i.v c.loop-i-test.true) ∙ c.loop-i.invariant.1)
 
 -- every digit is read
 pub returns : goal.returns
 returns c =
-    let at = c.before.loop-i in
-    sym (value_end c.before.before.before.args.s.now at.i at.v c.loop-i-test.false) ∙ at.invariant.1
+    let at = c.loop-i in
+    sym (value_end c.args.s.now at.i at.v c.loop-i-test.false) ∙ at.invariant.1
 
 pub loop-i-init : goal.loop-i-init
 loop-i-init c = (omega arith, refl)

@@ -7,24 +7,17 @@ use Rattle.test_words.proofs.is_hex.Goals as goal
 -- a byte is no digit
 pub returns-then-digit-gt15 : goal.returns-then-digit-gt15
 returns-then-digit-gt15 c =
-    let read = c.before in
-    let turn = read.before.before in
-    let head = turn.before in
-    let stop = hex_stop head.before.before.args.s.now head.loop-i.i turn.loop-i-test.true read.digit.ensures c.if-digit-gt15.true in
-    sym stop ∙ head.loop-i.invariant
+    let stop = hex_stop c.args.s.now c.loop-i.i c.loop-i-test.true c.digit.ensures c.if-digit-gt15.true in
+    sym stop ∙ c.loop-i.invariant
 
 pub loop-i-preserved : goal.loop-i-preserved
 loop-i-preserved c =
-    let read = c.before in
-    let turn = read.before.before in
-    let head = turn.before in
-    hex_on head.before.before.args.s.now head.loop-i.i turn.loop-i-test.true read.digit.ensures c.if-digit-gt15.false ∙ head.loop-i.invariant
+    hex_on c.args.s.now c.loop-i.i c.loop-i-test.true c.digit.ensures c.if-digit-gt15.false ∙ c.loop-i.invariant
 
 -- all bytes are digits
 pub returns : goal.returns
 returns c =
-    let ended = c.before in
-    sym (hex_end ended.before.before.args.s.now ended.loop-i.i c.loop-i-test.false) ∙ ended.loop-i.invariant
+    sym (hex_end c.args.s.now c.loop-i.i c.loop-i-test.false) ∙ c.loop-i.invariant
 
 pub loop-i-init : goal.loop-i-init
 loop-i-init c = refl

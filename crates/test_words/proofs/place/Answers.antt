@@ -8,19 +8,16 @@ use Rattle.test_words.proofs.place.Goals as goal
 -- found
 pub returns-then-named : goal.returns-then-named
 returns-then-named c =
-    let head = c.before.before.before in
-    record { first = head.loop-j.invariant.1; here = λ h. c.before.named.ensures.0 c.if-named.true; most = head.loop-j.invariant.0 }
+    record { first = c.loop-j.invariant.1; here = λ h. c.named.ensures.0 c.if-named.true; most = c.loop-j.invariant.0 }
 
 pub loop-j-preserved : goal.loop-j-preserved
 loop-j-preserved c =
-    let head = c.before.before.before in
-    (omega arith, below_more _ _ head.loop-j.invariant.1 (denied c.before.named.ensures.1 c.if-named.false))
+    (omega arith, below_more _ _ c.loop-j.invariant.1 (denied c.named.ensures.1 c.if-named.false))
 
 -- none of them
 pub returns : goal.returns
 returns c =
-    let head = c.before in
-    record { first = head.loop-j.invariant.1; here = λ h. absurd (omega arith); most = head.loop-j.invariant.0 }
+    record { first = c.loop-j.invariant.1; here = λ h. absurd (omega arith); most = c.loop-j.invariant.0 }
 
 pub loop-j-init : goal.loop-j-init
 loop-j-init c = (omega arith, (λ k h. absurd (omega arith)))

@@ -11,25 +11,23 @@ use Rattle.test_words.proofs.scan.Goals as goal
 -- it stops at a byte
 pub returns-then-stops : goal.returns-then-stops
 returns-then-stops c =
-    let head = c.before.before.before.before in
-    let given = head.before.before.args in
-    let more = c.before.before.before.loop-i-test.true in
-    let none = scan_here given.byte given.same given.s.now head.loop-i.i more (sym c.before.stops.ensures ∙ c.if-stops.true) in
-    record { is = omega (arith, none, head.loop-i.invariant.2); low = head.loop-i.invariant.0; high = λ h. omega arith }
+    let given = c.args in
+    let more = c.loop-i-test.true in
+    let none = scan_here given.byte given.same given.s.now c.loop-i.i more (sym c.stops.ensures ∙ c.if-stops.true) in
+    record { is = omega (arith, none, c.loop-i.invariant.2); low = c.loop-i.invariant.0; high = λ h. omega arith }
 
 pub loop-i-preserved : goal.loop-i-preserved
 loop-i-preserved c =
-    let head = c.before.before.before.before in
-    let given = head.before.before.args in
-    let more = c.before.before.before.loop-i-test.true in
-    let one = scan_on given.byte given.same given.s.now head.loop-i.i more (sym c.before.stops.ensures ∙ c.if-stops.false) in
-    (omega arith, (λ h. omega arith), rw (add-one head.loop-i.i) (omega (arith, one, head.loop-i.invariant.2)))
+    let given = c.args in
+    let more = c.loop-i-test.true in
+    let one = scan_on given.byte given.same given.s.now c.loop-i.i more (sym c.stops.ensures ∙ c.if-stops.false) in
+    (omega arith, (λ h. omega arith), rw (add-one c.loop-i.i) (omega (arith, one, c.loop-i.invariant.2)))
 
 -- it stops at the end
 pub returns : goal.returns
 returns c =
-    let given = c.before.before.before.args in
-    let at = c.before.loop-i in
+    let given = c.args in
+    let at = c.loop-i in
     let none = scan_end given.byte given.same given.s.now at.i c.loop-i-test.false in
     record { is = omega (arith, none, at.invariant.2); low = at.invariant.0; high = at.invariant.1 }
 

@@ -7,17 +7,13 @@ use Rattle.test_words.proofs.word.Goals as goal
 
 pub loop-i-preserved : goal.loop-i-preserved
 loop-i-preserved c =
-    let started = c.before in
-    let head = started.before.before in
-    (omega arith, word_next _ head.loop-i.invariant.1 started.scan-start-in-loop-i.ensures c.scan-stop-in-loop-i.ensures)
+    (omega arith, word_next _ c.loop-i.invariant.1 c.scan-start-in-loop-i.ensures c.scan-stop-in-loop-i.ensures)
 
 -- word k is reached
 pub returns : goal.returns
 returns c =
-    let ended = c.before in
-    let start = ended.before.before.before.before in
-    let last : ended.loop-i.i ≡ start.args.k = omega arith in
-    rw last at ended.loop-i.invariant.1
+    let last : c.loop-i.i ≡ c.args.k = omega arith in
+    rw last at c.loop-i.invariant.1
 
 pub loop-i-init : goal.loop-i-init
-loop-i-init c = (omega arith, word_first _ c.before.scan-start.ensures c.scan-stop.ensures)
+loop-i-init c = (omega arith, word_first _ c.scan-start.ensures c.scan-stop.ensures)

@@ -4,4 +4,4 @@ use Rattle.wake_rules.proofs.bars.Goals as goal
 
 pub returns : goal.returns
 unfolding barred
-returns c = let depth = c.before in rw (c.either.ensures, ← depth.before.error.ensures, ← depth.depth.ensures)
+returns c = rw (c.either.ensures, ← c.error.ensures, ← c.depth.ensures)

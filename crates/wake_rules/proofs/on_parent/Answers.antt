@@ -8,11 +8,7 @@ use Rattle.wake_rules.proofs.on_parent.Goals as goal
 pub returns : goal.returns
 unfolding on_parent sleeping_parent
 returns c =
-    let status = c.before in
-    let rests = status.before in
-    let second = rests.before in
-    let first = second.before in
     λ words.
-    let s = state_in first.before.args.bytes.now words in
-    let asleep : status.status.result ≡ status_at s first.parent-q.result = status.status.ensures words in
-    rw (c.both.ensures, rests.both-counted.ensures, ← first.parent-q.ensures words, ← second.ignore.ensures words, ← asleep)
+    let s = state_in c.args.bytes.now words in
+    let asleep : c.status.result ≡ status_at s c.parent-q.result = c.status.ensures words in
+    rw (c.both.ensures, c.both-counted.ensures, ← c.parent-q.ensures words, ← c.ignore.ensures words, ← asleep)

@@ -5,8 +5,5 @@ use Rattle.wake_rules.proofs.on_supplier.Goals as goal
 pub returns : goal.returns
 unfolding on_supplier sleeping_supplier
 returns c =
-    let status = c.before in
-    let rests = status.before in
-    let second = rests.before in
     λ words.
-    rw (c.both.ensures, rests.both-runtime.ensures, ← second.before.supplier-q.ensures words, ← second.flags.ensures words, ← status.status.ensures words)
+    rw (c.both.ensures, c.both-runtime.ensures, ← c.supplier-q.ensures words, ← c.flags.ensures words, ← c.status.ensures words)

@@ -10,26 +10,23 @@ loop-q-init c = (omega arith, ((λ l. l), heard_start))
 
 pub loop-q-preserved : goal.loop-q-preserved
 loop-q-preserved c =
-    let joined = c.before in
-    let asked = joined.before in
-    let at = asked.before.before in
-    let turn = at.before in
-    let inv = turn.before.loop-q.invariant in (
+    let turn = at in
+    let inv = turn.loop-q.invariant in (
       omega arith,
       (
         (λ l. omega (arith, turn.loop-q-test.true)),
-        rw (c.either-found.ensures, joined.both.ensures, asked.bars.ensures, at.row.ensures.0) (heard_more inv.0 inv.1.1),
+        rw (c.either-found.ensures, c.both.ensures, c.bars.ensures, c.row.ensures.0) (heard_more inv.0 inv.1.1),
       ),
     )
 
 -- no device is left
 pub returns : goal.returns
-returns c = let inv = c.before.loop-q.invariant in heard_end c.loop-q-test.false inv.1.0 inv.1.1
-
-unfolding ROWS
+returns c = let inv = c.loop-q.invariant in heard_end c.loop-q-test.false inv.1.0 inv.1.1
 
 pub overflow_add-q : goal.overflow_add-q
+unfolding ROWS
 overflow_add-q c = omega arith
 
 pub loop-q-smaller : goal.loop-q-smaller
+unfolding ROWS
 loop-q-smaller c = omega arith

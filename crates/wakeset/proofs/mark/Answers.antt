@@ -1,5 +1,4 @@
 -- The store and the answer are those of `adds_mark`. Assumes nothing.
--- q is lower, and the test holds
 use mathlib.Core.Path.{sym, ◌∙◌}
 use native.Mathlib.Omega.{arith}
 use Rattle.model.specs.Limits.{ROWS}
@@ -7,23 +6,16 @@ use Rattle.model.specs.Logic.{if◌then◌else◌}
 use Rattle.wakeset.proofs.Adding.{adds_mark}
 use Rattle.wakeset.proofs.mark.Goals as goal
 
+-- q is lower, and the test holds
 pub returns-then-both : goal.returns-then-both
 unfolding ROWS if◌then◌else◌
 returns-then-both c =
-    let test = c.before in
-    let stored = test.before in
-    let at = stored.before.before in
     λ long.
-    adds_mark at.row-at.ensures.0 (let l = at.row-at.ensures.1 in omega arith) stored.either.ensures (rw (sym test.both.ensures ∙ c.if-both.true))
+    adds_mark c.row-at.ensures.0 (let l = c.row-at.ensures.1 in omega arith) c.either.ensures (rw (sym c.both.ensures ∙ c.if-both.true))
 
 -- the lowest stays
 pub returns-else-both : goal.returns-else-both
 unfolding ROWS if◌then◌else◌
 returns-else-both c =
-    let test = c.before in
-    let stored = test.before in
-    let at = stored.before.before in
     λ long.
-    adds_mark at.row-at.ensures.0 (let l = at.row-at.ensures.1 in omega arith) stored.either.ensures (rw (sym test.both.ensures ∙ c.if-both.false))
-
-unfolding ROWS
+    adds_mark c.row-at.ensures.0 (let l = c.row-at.ensures.1 in omega arith) c.either.ensures (rw (sym c.both.ensures ∙ c.if-both.false))

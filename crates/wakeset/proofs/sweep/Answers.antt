@@ -12,6 +12,7 @@ use Rattle.links.specs.Firsts.{Listed}
 use Rattle.wakeset.specs.Sweep.{Exact, Swept}
 use Rattle.wakeset.proofs.Sweeping.{exact, swept_start, swept_step, swept_end}
 use Rattle.wakeset.proofs.sweep.Goals as goal
+use Rattle.wakeset.proofs.sweep.Goals.{After-pass-low, At-loop-low}
 
 -- t alone is passed
 pub loop-low-init : goal.loop-low-init
@@ -20,41 +21,37 @@ loop-low-init c = (omega arith, λ words u. u)
 -- device q - 1 is next
 pub loop-low-preserved : goal.loop-low-preserved
 loop-low-preserved c =
-    let turn = c.before.before in
-    let head = turn.before in
-    let test = turn.loop-low-test.true in
-    let inv = head.loop-low.invariant in (
+    let test = c.loop-low-test.true in
+    let inv = c.loop-low.invariant in (
       (let l = inv.0 in omega arith),
-      λ words u. swept_step _ words _ _ head.loop-low.q (omega arith) (omega arith) (inv.1 words u) c.step-low.ensures,
+      λ words u. swept_step _ words _ _ c.loop-low.q (omega arith) (omega arith) (inv.1 words u) c.step-low.ensures,
     )
 
 -- before the loop t is marked and passed, where it sleeps and no other mark was there
-begins : (c : goal.After-pass-low) → let a = c.before.before.before.args in
+begins : (c : After-pass-low) → let a = c.args in
     (words : List ℕ) → a.marks.now ≡ replicate ROWS false → status_at (state_in a.bytes.now words) a.t < ACTIVE →
     Swept (state_in a.bytes.now words) a.first.now a.t a.t c.pass-low.new.1.1.1.0 c.pass-low.result
 unfolding ROWS
 begins c words none z =
-    let at = c.before.before in
-    let marked = c.pass-low.ensures.is words (rw none (length-set (replicate ROWS false) at.row.result true ∙ length-replicate ROWS false)) in
-    swept_start _ _ _ (omega arith) (omega arith) z (rw (at.row.ensures.0, none) at marked)
+    let marked = c.pass-low.ensures.is words (rw none (length-set (replicate ROWS false) c.row.result true ∙ length-replicate ROWS false)) in
+    swept_start _ _ _ (omega arith) (omega arith) z (rw (c.row.ensures.0, none) at marked)
 
 -- request Two: at each turn the marked devices among those passed are exactly the wake set's
-pub each_step : (c : goal.At-loop-low) → let a = c.before.before.before.before.args in
+pub each_step : (c : At-loop-low) → let a = c.args in
     (words : List ℕ) → let s = state_in a.bytes.now words in
     Listed s.wiring a.first.now → a.t < s.wiring.n → a.marks.now ≡ replicate ROWS false → status_at s a.t < ACTIVE →
     Exact s a.t c.loop-low.q c.loop-low.marks
-each_step c words h l none z = exact h l (c.loop-low.invariant.1 words (begins c.before words none z))
+each_step c words h l none z = exact h l (c.loop-low.invariant.1 words (begins words none z))
 
 -- the lowest mark is reached
 pub returns : goal.returns
 returns c =
-    let head = c.before in
-    record { is = λ words none z. swept_end c.loop-low-test.false (head.loop-low.invariant.1 words (begins head.before words none z)) }
-
-unfolding ROWS
+    record { is = λ words none z. swept_end c.loop-low-test.false (c.loop-low.invariant.1 words (begins (goal.at.returns c).After-pass-low words none z)) }
 
 pub overflow_sub-q : goal.overflow_sub-q
+unfolding ROWS
 overflow_sub-q c = omega arith
 
 pub loop-low-smaller : goal.loop-low-smaller
+unfolding ROWS
 loop-low-smaller c = omega arith

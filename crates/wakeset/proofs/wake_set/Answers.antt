@@ -1,14 +1,14 @@
 -- The sweep leaves the marks of the wake set; a powered device's set is empty. Assumes nothing.
--- t is powered
 use Rattle.model.specs.Limits.{ROWS}
 use Rattle.wakeset.proofs.Members.{powered_marks, wake_marks_lem}
 use Rattle.wakeset.proofs.wake_set.Goals as goal
 
+-- t is powered
 pub returns-then-status-ge-ACTIVE : goal.returns-then-status-ge-ACTIVE
 unfolding ROWS
-returns-then-status-ge-ACTIVE c = powered_marks (λ words. rw (c.before.status.ensures words) at c.if-status-ge-ACTIVE.true)
+returns-then-status-ge-ACTIVE c = powered_marks (λ words. rw (c.status.ensures words) at c.if-status-ge-ACTIVE.true)
 
 -- t sleeps
 pub returns : goal.returns
 unfolding ROWS
-returns c = let test = c.before.before in wake_marks_lem (λ words. rw (test.before.status.ensures words) at test.if-status-ge-ACTIVE.false) c.sweep.ensures
+returns c = wake_marks_lem (λ words. rw (c.status.ensures words) at c.if-status-ge-ACTIVE.false) c.sweep.ensures

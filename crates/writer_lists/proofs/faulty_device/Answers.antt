@@ -13,19 +13,15 @@ loop-p-init c = pass_none _ _
 -- a device that breaks them
 pub returns-then-not-device_fits : goal.returns-then-not-device_fits
 returns-then-not-device_fits c =
-    let d = c.before in
-    let t = d.before in
-    stop_bad t.before.loop-p.invariant t.loop-p-test.true (sym d.device_fits.ensures ∙ not-true d.device_fits.result c.if-not-device_fits.true-raw)
+    stop_bad c.loop-p.invariant c.loop-p-test.true (sym c.device_fits.ensures ∙ not-true c.device_fits.result c.if-not-device_fits.true-raw)
 
 pub loop-p-preserved : goal.loop-p-preserved
 loop-p-preserved c =
-    let d = c.before in
-    let t = d.before in
-    pass_one t.before.loop-p.invariant t.loop-p-test.true (sym d.device_fits.ensures ∙ not-false d.device_fits.result c.if-not-device_fits.false-raw)
+    pass_one c.loop-p.invariant c.loop-p-test.true (sym c.device_fits.ensures ∙ not-false c.device_fits.result c.if-not-device_fits.false-raw)
 
 -- there is none
 pub returns : goal.returns
-returns c = stop_end c.before.loop-p.invariant c.loop-p-test.false
+returns c = stop_end c.loop-p.invariant c.loop-p-test.false
 
 pub overflow_add-p : goal.overflow_add-p
 overflow_add-p c = omega arith

@@ -18,24 +18,19 @@ loop-j-init c = (omega arith, λ k l. absurd (omega arith))
 pub returns-then-pair_of-own : goal.returns-then-pair_of-own
 unfolding repeats
 returns-then-pair_of-own c =
-    let p = c.before in
-    let t = p.before in
-    let own = t.before.before in
-    let a = own.before.before.args in
+    let a = c.args in
     sym
-    (any_of (λ j. eqb (pair a.links.now j) (pair a.links.now a.i)) a.i t.before.loop-j.j t.loop-j-test.true
-    (eq-eqb _ _ (sym p.pair_of.ensures ∙ (c.if-pair_of-own.true ∙ own.pair_of-own.ensures))))
+    (any_of (λ j. eqb (pair a.links.now j) (pair a.links.now a.i)) a.i c.loop-j.j c.loop-j-test.true
+    (eq-eqb _ _ (sym c.pair_of.ensures ∙ (c.if-pair_of-own.true ∙ c.pair_of-own.ensures))))
 
 pub loop-j-preserved : goal.loop-j-preserved
 loop-j-preserved c =
-    let p = c.before in
-    let l = p.before.before in
-    (omega arith, below_more _ _ l.loop-j.invariant.1 (ne_eqb _ _ (λ e. c.if-pair_of-own.false (p.pair_of.ensures ∙ (e ∙ sym l.before.pair_of-own.ensures)))))
+    (omega arith, below_more _ _ c.loop-j.invariant.1 (ne_eqb _ _ (λ e. c.if-pair_of-own.false (c.pair_of.ensures ∙ (e ∙ sym c.pair_of-own.ensures)))))
 
 -- there is none
 pub returns : goal.returns
 unfolding repeats
-returns c = sym ((any_fails _ _).1 (λ k l. c.before.loop-j.invariant.1 k (omega arith)))
+returns c = sym ((any_fails _ _).1 (λ k l. c.loop-j.invariant.1 k (omega arith)))
 
 pub overflow_add-j : goal.overflow_add-j
 overflow_add-j c = omega arith

@@ -8,17 +8,17 @@ use Rattle.memory.specs.Layout.{BYTES, WORDS}
 use Rattle.memory.proofs.Inverse.{shaped_in}
 use borrow.Author.Rules.{rules}
 use Rattle.keeper_bench.proofs.Bench.sound.Goals as goal
+use Rattle.keeper_bench.proofs.Bench.sound.Goals.{Start}
 
-many_bytes : (c : goal.Start) → length c.args.t1.bytes ≡ BYTES
+many_bytes : (c : Start) → length c.args.t1.bytes ≡ BYTES
 unfolding BYTES ROWS LINKS
 many_bytes c = let g = c.well_formed.0 in search rules
 
-many_words : (c : goal.Start) → length c.args.t1.words ≡ WORDS
+many_words : (c : Start) → length c.args.t1.words ≡ WORDS
 unfolding WORDS ROWS
 many_words c = let g = c.well_formed.0 in search rules
 
 pub returns : goal.returns
 returns c =
-    let b = c.before.before.before.before in
     let e = c.sound.ensures in
-    record { test = e; sound = λ t. (sound_iff _ (shaped_in _ _ (many_bytes b) (many_words b))).0 (sym e ∙ t) }
+    record { test = e; sound = λ t. (sound_iff _ (shaped_in _ _ (many_bytes (goal.at.returns c).Start (many_words (goal.at.returns c).Start)).0 (sym e ∙ t) }

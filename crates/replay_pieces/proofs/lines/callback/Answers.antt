@@ -3,8 +3,5 @@ use Rattle.replay_pieces.proofs.lines.callback.Goals as goal
 
 pub returns : goal.returns
 returns c =
-    let target = c.before in
-    let asked = target.before.before in
-    let kind = asked.before.before in
-    let words = kind.before.before.before.args.bench.words in
-    rw (← kind.callback-kind.ensures words, ← asked.asked-asked.ensures words, ← target.target-target.ensures words) c.callback.ensures
+    let words = c.args.bench.words in
+    rw (← c.callback-kind.ensures words, ← c.asked-asked.ensures words, ← c.target-target.ensures words) c.callback.ensures

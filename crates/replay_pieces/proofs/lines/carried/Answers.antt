@@ -3,5 +3,4 @@ use Rattle.replay_pieces.proofs.lines.carried.Goals as goal
 
 pub returns : goal.returns
 returns c =
-    let used = c.before in
-    rw (← used.used-used.ensures used.before.before.before.args.bench.words) c.carried.ensures
+    rw (← c.used-used.ensures c.args.bench.words) c.carried.ensures

@@ -3,11 +3,5 @@ use Rattle.replay_pieces.proofs.lines.device.Goals as goal
 
 pub returns : goal.returns
 returns c =
-    let error = c.before in
-    let depth = error.before.before in
-    let children = depth.before.before in
-    let linked = children.before.before in
-    let holds = linked.before.before in
-    let status = holds.before.before in
-    rw (← error.error-error.ensures, ← depth.depth-depth.ensures, ← children.children-children.ensures, ← linked.linked-linked.ensures)
-    (rw (← holds.holds-holds.ensures, ← status.status-status.ensures) c.device.ensures)
+    rw (← c.error-error.ensures, ← c.depth-depth.ensures, ← c.children-children.ensures, ← c.linked-linked.ensures)
+    (rw (← c.holds-holds.ensures, ← c.status-status.ensures) c.device.ensures)
