@@ -10,7 +10,7 @@ byte : (c : Start) → c.args.number < RANGE
 byte c = let f = c.ranges.number.fits in omega arith
 
 pub returns : goal.returns
-returns c = less_is c.args.number (byte (goal.at.returns c).Start
+returns c = less_is c.args.number (byte (goal.at.returns c).Start)
 
 pub overflow_sub-result : goal.overflow_sub-result
-overflow_sub-result c = less_fits c.args.number (byte (goal.at.overflow_sub-result c).Start
+overflow_sub-result c = less_fits c.args.number (byte (goal.at.overflow_sub-result c).Start)

@@ -19,4 +19,4 @@ many_words c = let g = c.well_formed.0 in search rules
 -- the one exit
 pub returns : goal.returns
 returns c =
-    sym (c.feed-answer.ensures.is (many_bytes (goal.at.returns c).Start (many_words (goal.at.returns c).Start)
+    sym (c.feed-answer.ensures.is (many_bytes (goal.at.returns c).Start) (many_words (goal.at.returns c).Start))

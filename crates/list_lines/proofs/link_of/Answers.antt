@@ -14,14 +14,14 @@ greatest c = c.most-worst.ensures.is ∙ rw c.most.ensures.is
 -- a word that is no number
 pub returns-then-worst-gt-OVER : goal.returns-then-worst-gt-OVER
 unfolding link_of
-returns-then-worst-gt-OVER c = judged_wrong _ (greatest (goal.at.returns-then-worst-gt-OVER c).After-most-worst c.if-worst-gt-OVER.true
+returns-then-worst-gt-OVER c = judged_wrong _ (greatest (goal.at.returns-then-worst-gt-OVER c).After-most-worst) c.if-worst-gt-OVER.true
 
 -- a number over 255
 pub returns-then-worst-gt255 : goal.returns-then-worst-gt255
 unfolding link_of
-returns-then-worst-gt255 c = judged_large _ (greatest (goal.at.returns-then-worst-gt255 c).After-most-worst c.if-worst-gt255.true c.if-worst-gt-OVER.false
+returns-then-worst-gt255 c = judged_large _ (greatest (goal.at.returns-then-worst-gt255 c).After-most-worst) c.if-worst-gt255.true c.if-worst-gt-OVER.false
 
 -- three numbers
 pub returns : goal.returns
 unfolding link_of
-returns c = judged_good _ (greatest (goal.at.returns c).After-most-worst c.if-worst-gt255.false
+returns c = judged_good _ (greatest (goal.at.returns c).After-most-worst) c.if-worst-gt255.false

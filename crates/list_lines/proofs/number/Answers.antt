@@ -36,7 +36,7 @@ pub loop-i-preserved : goal.loop-i-preserved
 loop-i-preserved c =
     let at = c.loop-i in
     let word = c.args.word.now in
-    let next = number_on word at.i at.value c.loop-i-test.true (digit (goal.at.loop-i-preserved c).Else-not-is_digit in
+    let next = number_on word at.i at.value c.loop-i-test.true (digit (goal.at.loop-i-preserved c).Else-not-is_digit) in
     (omega arith, rw c.capped-value.ensures (capped_low _), rw c.capped-value.ensures (next ∙ at.invariant.2))
 
 -- all are digits
@@ -47,10 +47,10 @@ returns c =
     sym (number_end word at.i at.value c.loop-i-test.false at.invariant.1) ∙ at.invariant.2
 
 pub overflow_sub-b : goal.overflow_sub-b
-overflow_sub-b c = omega (arith, range (goal.at.overflow_sub-b c).Else-not-is_digit
+overflow_sub-b c = omega (arith, range (goal.at.overflow_sub-b c).Else-not-is_digit)
 
 pub overflow_cast-b : goal.overflow_cast-b
-overflow_cast-b c = omega (arith, range (goal.at.overflow_cast-b c).Else-not-is_digit
+overflow_cast-b c = omega (arith, range (goal.at.overflow_cast-b c).Else-not-is_digit)
 
 pub overflow_add-value : goal.overflow_add-value
-overflow_add-value c = omega (arith, range (goal.at.overflow_add-value c).Else-not-is_digit
+overflow_add-value c = omega (arith, range (goal.at.overflow_add-value c).Else-not-is_digit)

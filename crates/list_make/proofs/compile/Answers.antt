@@ -39,11 +39,11 @@ links c =
     all_there _ _ g.ensures.bytes g.ensures.buffer (let l = c.if-m-gt-LINK_BYTES.false in omega arith)
 
 pub slice_bounds-write-end : goal.slice_bounds-write-end
-slice_bounds-write-end c = c.gather-n.ensures.bytes ∙ ap length (sym (devices (goal.at.slice_bounds-write-end c).Else-m-gt-LINK_BYTES)
+slice_bounds-write-end c = c.gather-n.ensures.bytes ∙ ap length (sym (devices (goal.at.slice_bounds-write-end c).Else-m-gt-LINK_BYTES))
 
 pub slice_bounds-write-end-2 : goal.slice_bounds-write-end-2
 slice_bounds-write-end-2 c =
-    c.gather-m.ensures.bytes ∙ ap length (sym (links (goal.at.slice_bounds-write-end-2 c).Else-m-gt-LINK_BYTES)
+    c.gather-m.ensures.bytes ∙ ap length (sym (links (goal.at.slice_bounds-write-end-2 c).Else-m-gt-LINK_BYTES))
 
 -- the writer's answer
 pub returns : goal.returns
@@ -51,4 +51,4 @@ returns c =
     let a = c.args in
     let n = c.gather-n.ensures.bytes in
     let m = c.gather-m.ensures.bytes in
-    makes a.text.now a.table.now _ (given_same a.table.now c.write-outcome.ensures (devices (goal.at.returns c).Else-m-gt-LINK_BYTES (links (goal.at.returns c).Else-m-gt-LINK_BYTES) c.told-2.ensures (λ z. omega arith)
+    makes a.text.now a.table.now _ (given_same a.table.now c.write-outcome.ensures (devices (goal.at.returns c).Else-m-gt-LINK_BYTES) (links (goal.at.returns c).Else-m-gt-LINK_BYTES)) c.told-2.ensures (λ z. omega arith)

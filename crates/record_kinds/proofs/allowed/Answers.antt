@@ -24,12 +24,12 @@ pub returns-then-v-least : goal.returns-then-v-least
 returns-then-v-least c =
     let s = c.signed-v.ensures in
     let h = c.ranges.value.fits in
-    allowed_no _ _ (rw (s, signed_through _ h, through _ (fits_least (goal.at.returns-then-v-least c).After-struct_told-2-1) at c.if-v-least.true)
+    allowed_no _ _ (rw (s, signed_through _ h, through _ (fits_least (goal.at.returns-then-v-least c).After-struct_told-2-1)) at c.if-v-least.true)
 
 -- at least the least
 pub returns : goal.returns
 returns c =
     let s = c.signed-v.ensures in
     let h = c.ranges.value.fits in
-    rw (s, signed_through _ h, through _ (fits_greatest (goal.at.returns c).After-struct_told-2-1)
-    (allowed_if _ _ (rw (s, signed_through _ h, through _ (fits_least (goal.at.returns c).After-struct_told-2-1) at c.if-v-least.false))
+    rw (s, signed_through _ h, through _ (fits_greatest (goal.at.returns c).After-struct_told-2-1))
+    (allowed_if _ _ (rw (s, signed_through _ h, through _ (fits_least (goal.at.returns c).After-struct_told-2-1)) at c.if-v-least.false))

@@ -22,7 +22,7 @@ rows start =
 -- nothing is carried: the records stand in the piece
 piece_fits : (c : Then-used-lt1) → Room 0 c.args.piece.now c.args.replies.now
 piece_fits none =
-    let u = none.if-used-lt1.taken in
+    let u = none.if-used-lt1.true in
     let r = none.requires.room in
     record { few = omega arith; short = none.requires.short; room = omega arith }
 
@@ -32,12 +32,12 @@ shape_of-replies-then-used-lt1 c = search rules
 pub returns-then-used-lt1 : goal.returns-then-used-lt1
 returns-then-used-lt1 c =
     let e : c.args.carried.used ≡ 0 = (let u = c.if-used-lt1.true in omega arith) in
-    record { is = λ z. rw e ((c.answer_records.ensures.is (piece_fits (goal.at.returns-then-used-lt1 c).Then-used-lt1).is z) }
+    record { is = λ z. rw e ((c.answer_records.ensures.is (piece_fits (goal.at.returns-then-used-lt1 c).Then-used-lt1)).is z) }
 
 -- there is no whole record
 pub returns-then-used-piece-lt4 : goal.returns-then-used-piece-lt4
 returns-then-used-piece-lt4 c =
-    let long = joined_length c.args.carried.bytes c.args.piece.now c.args.carried.used (rows (goal.at.returns-then-used-piece-lt4 c).Start in
+    let long = joined_length c.args.carried.bytes c.args.piece.now c.args.carried.used (rows (goal.at.returns-then-used-piece-lt4 c).Start) in
     record { is = λ z. turning_end (turning_start (let r = c.requires.room in omega arith)) (let l = c.if-used-piece-lt4.true in omega arith) z }
 
 -- there is a whole record, and room for its reply
@@ -48,7 +48,7 @@ whole_record c =
     let long : length c.args.carried.bytes ≡ 3 = search rules in
     omega arith in
     let l = c.if-used-piece-lt4.false in
-    let long = joined_length c.args.carried.bytes c.args.piece.now c.args.carried.used (rows in
+    let long = joined_length c.args.carried.bytes c.args.piece.now c.args.carried.used (rows) in
     omega arith
 
 room_for_one : (c : Else-used-piece-lt4) → 4 ≤ length c.args.replies.now
@@ -63,7 +63,7 @@ used_up start = let few = start.requires.few in omega arith
 -- the first record, then the others
 pub answer_first-requires : goal.answer_first-requires
 answer_first-requires c =
-    (c.requires.few, room_for_one (goal.at.answer_first-requires c).Else-used-piece-lt4
+    (c.requires.few, room_for_one (goal.at.answer_first-requires c).Else-used-piece-lt4)
 
 pub answer_rest-requires : goal.answer_rest-requires
 answer_rest-requires c =
@@ -81,10 +81,10 @@ shape_of-replies c = search rules
 pub returns : goal.returns
 returns c =
     let rest = c.answer_rest.ensures in
-    let after = rest_after c.args.carried.bytes c.args.piece.now c.args.carried.used (rows (goal.at.returns c).Start 4 (used_up (goal.at.returns c).Start in
+    let after = rest_after c.args.carried.bytes c.args.piece.now c.args.carried.used (rows (goal.at.returns c).Start) 4 (used_up (goal.at.returns c).Start) in
     record {
       is = λ z.
           let head = c.answer_first.ensures.is z in
           let more = rw after at (rest.is head.between) in
-          rw rest.back (led_joined ((joined c.args.carried.bytes c.args.carried.used c.args.piece.now)) c.args.replies.now (whole_record (goal.at.returns c).Else-used-piece-lt4 (room_for_one (goal.at.returns c).Else-used-piece-lt4 z head more);
+          rw rest.back (led_joined ((joined c.args.carried.bytes c.args.carried.used c.args.piece.now)) c.args.replies.now (whole_record (goal.at.returns c).Else-used-piece-lt4) (room_for_one (goal.at.returns c).Else-used-piece-lt4) z head more);
     }

@@ -11,4 +11,4 @@ first_fits headed =
 
 pub returns : goal.returns
 returns c =
-    record { is = λ z. rw c.head-front.ensures at ((c.answer_records.ensures.is (first_fits (goal.at.returns c).After-head-front).is z) }
+    record { is = λ z. rw c.head-front.ensures at ((c.answer_records.ensures.is (first_fits (goal.at.returns c).After-head-front)).is z) }

@@ -41,4 +41,4 @@ rest-requires c =
 -- the records are answered
 pub returns : goal.returns
 returns c =
-    record { is = λ r. c.answer_all.ensures; left = λ r. c.rest.ensures; untouched = λ n. absurd (n (fits (goal.at.returns c).Else-replies-whole) }
+    record { is = λ r. c.answer_all.ensures; left = λ r. c.rest.ensures; untouched = λ n. absurd (n (fits (goal.at.returns c).Else-replies-whole)) }

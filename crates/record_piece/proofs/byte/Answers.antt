@@ -14,9 +14,9 @@ few c = search rules
 -- a carried byte
 pub returns-then-i-used : goal.returns-then-i-used
 returns-then-i-used c =
-    carried_at c.args.t1 _ _ (few (goal.at.returns-then-i-used c).Start c.args.i c.if-i-used.true
+    carried_at c.args.t1 _ _ (few (goal.at.returns-then-i-used c).Start) c.args.i c.if-i-used.true
 
 -- a byte of the piece
 pub returns : goal.returns
 returns c =
-    c.byte_at.ensures ∙ piece_at c.args.t1 _ _ (few (goal.at.returns c).Start c.args.i _ (let l = c.if-i-used.false in omega arith)
+    c.byte_at.ensures ∙ piece_at c.args.t1 _ _ (few (goal.at.returns c).Start) c.args.i _ (let l = c.if-i-used.false in omega arith)

@@ -37,7 +37,7 @@ returns-in_default c =
 
 -- the replay of the log ends early
 pub returns-in_default-end : goal.returns-in_default-end
-returns-in_default-end c = judged_taken (zero (goal.at.returns-in_default-end c).After-named-session c.named-session.ensures.ran
+returns-in_default-end c = judged_taken (zero (goal.at.returns-in_default-end c).After-named-session) c.named-session.ensures.ran
 
 pub keep-kept-requires : goal.keep-kept-requires
 keep-kept-requires c = replayed (goal.at.keep-kept-requires c).After-named-session
@@ -45,7 +45,7 @@ keep-kept-requires c = replayed (goal.at.keep-kept-requires c).After-named-sessi
 -- the bench cannot be saved
 pub returns-in_default-kept : goal.returns-in_default-kept
 returns-in_default-kept c =
-    judged_taken (zero (goal.at.returns-in_default-kept c).After-named-session c.keep-kept.ensures
+    judged_taken (zero (goal.at.returns-in_default-kept c).After-named-session) c.keep-kept.ensures
 
 pub tell-requires : goal.tell-requires
 tell-requires c =
@@ -54,4 +54,4 @@ tell-requires c =
 -- the state is told
 pub returns : goal.returns
 returns c =
-    judged_taken (zero (goal.at.returns c).After-named-session (⊎_elim ran_done ran_failed c.tell.ensures)
+    judged_taken (zero (goal.at.returns c).After-named-session) (⊎_elim ran_done ran_failed c.tell.ensures)

@@ -33,7 +33,7 @@ returns-then-either c = slept_stop c.put_first-put.ensures _ c.finished.ensures 
 pub returns-then-code-gt0 : goal.returns-then-code-gt0
 returns-then-code-gt0 c =
     let code = coded (goal.at.returns-then-code-gt0 c).After-first_code-code in
-    slept_go c.put_first-put.ensures (ends_by (goal.at.returns-then-code-gt0 c).After-either ∙ c.if-either.left) (record {
+    slept_go c.put_first-put.ensures (ends_by (goal.at.returns-then-code-gt0 c).After-either ∙ c.if-either.false) (record {
       idling = λ e. record { is = λ h. rw c.finished-then-code-gt0.ensures (idle_stops _ _ code e c.if-code-gt0.true) };
       suspending = λ e. record { is = λ h l. rw c.finished-then-code-gt0.ensures (suspend_stops _ _ code e c.if-code-gt0.true); stays = λ f. refl };
     })
@@ -41,13 +41,13 @@ returns-then-code-gt0 c =
 -- its idle callback is asked for
 pub returns-then-kind-lt8 : goal.returns-then-kind-lt8
 returns-then-kind-lt8 c =
-    slept_go c.put_first-put.ensures (ends_by (goal.at.returns-then-kind-lt8 c).After-either ∙ c.if-either.left) (record {
+    slept_go c.put_first-put.ensures (ends_by (goal.at.returns-then-kind-lt8 c).After-either ∙ c.if-either.false) (record {
       idling =
           λ e.
           record {
             is =
                 λ h.
-                rw (c.set_callback.ensures _ (full_long _ _ h), c.ask.ensures) (idle_asks _ _ (coded (goal.at.returns-then-kind-lt8 c).After-first_code-code e c.if-code-gt0.false);
+                rw (c.set_callback.ensures _ (full_long _ _ h), c.ask.ensures) (idle_asks _ _ (coded (goal.at.returns-then-kind-lt8 c).After-first_code-code) e c.if-code-gt0.false);
           };
       suspending = λ e. never (lt-ltb _ _ c.if-kind-lt8.true) e;
     })
@@ -55,12 +55,12 @@ returns-then-kind-lt8 c =
 -- it is asked to suspend
 pub returns : goal.returns
 returns c =
-    slept_go c.put_first-put.ensures (ends_by (goal.at.returns c).After-either ∙ c.if-either.left) (record {
+    slept_go c.put_first-put.ensures (ends_by (goal.at.returns c).After-either ∙ c.if-either.false) (record {
       idling = λ e. never e (le-ltb _ _ c.if-kind-lt8.false);
       suspending =
           λ e.
           record {
-            is = λ h l. suspend_asks _ _ (coded (goal.at.returns c).After-first_code-code e c.if-code-gt0.false ∙ c.ask_suspend.ensures.is h l;
+            is = λ h l. suspend_asks _ _ (coded (goal.at.returns c).After-first_code-code) e c.if-code-gt0.false ∙ c.ask_suspend.ensures.is h l;
             stays = c.ask_suspend.ensures.stays;
           };
     })

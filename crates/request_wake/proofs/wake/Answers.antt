@@ -35,7 +35,7 @@ returns-then-error-gt0 c =
 pub returns-then-depth-gt0 : goal.returns-then-depth-gt0
 returns-then-depth-gt0 c =
     record {
-      is = λ h l. rw c.finished-then-depth-gt0.ensures (wake_disabled _ _ (no_error (goal.at.returns-then-depth-gt0 c).Else-error-gt0 (rw (← c.depth.ensures) (lt-ltb _ _ c.if-depth-gt0.true)));
+      is = λ h l. rw c.finished-then-depth-gt0.ensures (wake_disabled _ _ (no_error (goal.at.returns-then-depth-gt0 c).Else-error-gt0) (rw (← c.depth.ensures) (lt-ltb _ _ c.if-depth-gt0.true)));
       stays = λ f. refl;
     }
 
@@ -43,7 +43,7 @@ returns-then-depth-gt0 c =
 pub returns-then-status-eq-ACTIVE : goal.returns-then-status-eq-ACTIVE
 returns-then-status-eq-ACTIVE c =
     record {
-      is = λ h l. rw c.finished-then-status-eq-ACTIVE.ensures (wake_active _ _ (clear (goal.at.returns-then-status-eq-ACTIVE c).Else-depth-gt0 (rw (← c.status.ensures) (eq-eqb _ _ c.if-status-eq-ACTIVE.true)));
+      is = λ h l. rw c.finished-then-status-eq-ACTIVE.ensures (wake_active _ _ (clear (goal.at.returns-then-status-eq-ACTIVE c).Else-depth-gt0) (rw (← c.status.ensures) (eq-eqb _ _ c.if-status-eq-ACTIVE.true)));
       stays = λ f. refl;
     }
 
@@ -54,7 +54,7 @@ returns-then-found c =
       is =
           λ h l.
           rw c.finished-then-found.ensures
-          (wake_barred _ _ (clear (goal.at.returns-then-found c).Else-depth-gt0 (inactive (goal.at.returns-then-found c).Else-status-eq-ACTIVE (rw (c.reached-found.ensures.barred (listed h) l) at c.if-found.true));
+          (wake_barred _ _ (clear (goal.at.returns-then-found c).Else-depth-gt0) (inactive (goal.at.returns-then-found c).Else-status-eq-ACTIVE) (rw (c.reached-found.ensures.barred (listed h) l) at c.if-found.true));
       stays = λ f. refl;
     }
 
@@ -66,7 +66,7 @@ returns c =
           λ h l.
           let low = c.reached-found.ensures.low.is _ (listed h) l in
           let free = rw (c.reached-found.ensures.barred (listed h) l) at c.if-found.false in
-          wake_asks _ _ (clear (goal.at.returns c).Else-depth-gt0 (inactive (goal.at.returns c).Else-status-eq-ACTIVE free low
+          wake_asks _ _ (clear (goal.at.returns c).Else-depth-gt0) (inactive (goal.at.returns c).Else-status-eq-ACTIVE) free low
           ∙ c.ask_resume.ensures.is _ h.ready (rw low (lowest_asleep h.ready _ l));
       stays = c.ask_resume.ensures.stays _;
     }

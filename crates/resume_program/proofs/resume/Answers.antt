@@ -17,7 +17,7 @@ number n = n.restore_number-number.ensures ∙ ap (λ (r : Restored). r.number) 
 zero : (f : After-named-session) → (restore_of (f.args.state.now)).number ≡ 0
 zero f =
     let number : f.restore_number-number.result ≡ (restore_of (f.args.state.now)).number = f.restore_number-number.ensures ∙ ap (λ (r : Restored). r.number) f.restore-restored.ensures in
-    sym (number ∙ f.if-number-ne0.false
+    sym (number) ∙ f.if-number-ne0.false
 
 -- what was fed, from its bench on
 resumed : (f : After-named-session) → Resumed (f.args.state.now) f.named-session.result.progress
@@ -39,7 +39,7 @@ returns-then-number-ne0 c =
 
 -- the replay of the log ends early
 pub returns-in_default : goal.returns-in_default
-returns-in_default c = judged_taken (zero (goal.at.returns-in_default c).After-named-session c.named-session.ensures.ran
+returns-in_default c = judged_taken (zero (goal.at.returns-in_default c).After-named-session) c.named-session.ensures.ran
 
 pub keep-kept-requires : goal.keep-kept-requires
 keep-kept-requires c = resumed (goal.at.keep-kept-requires c).After-named-session
@@ -47,7 +47,7 @@ keep-kept-requires c = resumed (goal.at.keep-kept-requires c).After-named-sessio
 -- the bench cannot be saved
 pub returns-in_default-kept : goal.returns-in_default-kept
 returns-in_default-kept c =
-    judged_taken (zero (goal.at.returns-in_default-kept c).After-named-session c.keep-kept.ensures
+    judged_taken (zero (goal.at.returns-in_default-kept c).After-named-session) c.keep-kept.ensures
 
 pub tell-requires : goal.tell-requires
 tell-requires c =
@@ -56,4 +56,4 @@ tell-requires c =
 -- the state is told
 pub returns : goal.returns
 returns c =
-    judged_taken (zero (goal.at.returns c).After-named-session (⊎_elim ran_done ran_failed c.tell.ensures)
+    judged_taken (zero (goal.at.returns c).After-named-session) (⊎_elim ran_done ran_failed c.tell.ensures)

@@ -28,4 +28,4 @@ pub returns : goal.returns
 unfolding FORM BYTES WORDS ROWS LINKS header
 returns c =
     written c.if-out-lt-FORM.false
-    (formed _ _ _ (many_bytes (goal.at.returns c).Start (many_words (goal.at.returns c).Start c.put_bytes.ensures c.put_bytes-2.ensures c.put_words.ensures)
+    (formed _ _ _ (many_bytes (goal.at.returns c).Start) (many_words (goal.at.returns c).Start) c.put_bytes.ensures c.put_bytes-2.ensures c.put_words.ensures)

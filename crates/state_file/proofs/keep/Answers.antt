@@ -42,7 +42,7 @@ returns-then-number-ne0 c =
     let bench = c.args.bench in
     let number = c.save_number-number.ensures in
     record {
-      unasked = λ e. absurd (c.if-task-eq0.left e);
+      unasked = λ e. absurd (c.if-task-eq0.false e);
       sound = λ n t. absurd (c.if-number-ne0.true (number ∙ sound_saved bench buffer room c.save-saving.result c.save-saving.ensures t));
       unsound = λ n t. refl;
     }
@@ -51,7 +51,7 @@ pub named-requires : goal.named-requires
 unfolding FORM BYTES WORDS ROWS LINKS
 named-requires c =
     let z = sym c.save_number-number.ensures ∙ c.if-number-ne0.false in
-    form_saved c.args.bench buffer room c.save-saving.result c.save-saving.ensures (many_bytes (goal.at.named-requires c).Start (many_words (goal.at.named-requires c).Start z
+    form_saved c.args.bench buffer room c.save-saving.result c.save-saving.ensures (many_bytes (goal.at.named-requires c).Start) (many_words (goal.at.named-requires c).Start) z
 
 -- the bench is saved, or a file fails
 pub returns : goal.returns
@@ -60,7 +60,7 @@ returns c =
     let bench = c.args.bench in
     let z = sym c.save_number-number.ensures ∙ c.if-number-ne0.false in
     record {
-      unasked = λ e. absurd (c.if-task-eq0.left e);
+      unasked = λ e. absurd (c.if-task-eq0.false e);
       sound = λ n t. c.named.ensures;
       unsound = λ n t. let x = unsound_refused bench buffer room c.save-saving.result c.save-saving.ensures t in absurd (omega arith);
     }

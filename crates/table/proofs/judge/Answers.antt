@@ -61,4 +61,4 @@ returns-then-not-length_good c =
 pub returns : goal.returns
 unfolding table_answer if◌then◌else◌
 returns c =
-    rw (long (goal.at.returns c).Else-t-lt7, marked (goal.at.returns c).Else-not-mark_good, versioned (goal.at.returns c).Else-not-version_good, limited (goal.at.returns c).Else-not-limits_good, exact (goal.at.returns c).Else-not-length_good c.scan.ensures
+    rw (long (goal.at.returns c).Else-t-lt7, marked (goal.at.returns c).Else-not-mark_good, versioned (goal.at.returns c).Else-not-version_good, limited (goal.at.returns c).Else-not-limits_good, exact (goal.at.returns c).Else-not-length_good) c.scan.ensures

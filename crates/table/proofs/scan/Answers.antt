@@ -47,7 +47,7 @@ entries-smaller c = omega arith
 pub entries-preserved : goal.entries-preserved
 entries-preserved c =
     let rises = sym c.link_ascends.ensures ∙ not-false c.link_ascends.result c.if-not-link_ascends.false-raw in
-    pass_link c.entries.invariant c.if-links-i.false (good_link _ _ (fits (goal.at.entries-preserved c).Else-not-link_fits rises)
+    pass_link c.entries.invariant c.if-links-i.false (good_link _ _ (fits (goal.at.entries-preserved c).Else-not-link_fits) rises)
 
 -- a device is refused
 pub returns-then-not-device_good : goal.returns-then-not-device_good
@@ -69,4 +69,4 @@ returns-then-not-link_fits c =
 pub returns-then-not-link_ascends : goal.returns-then-not-link_ascends
 returns-then-not-link_ascends c =
     let falls = sym c.link_ascends.ensures ∙ not-true c.link_ascends.result c.if-not-link_ascends.true-raw in
-    stop_link c.entries.invariant c.if-p-devices.false c.if-links-i.false (descends _ _ (fits (goal.at.returns-then-not-link_ascends c).Else-not-link_fits falls)
+    stop_link c.entries.invariant c.if-p-devices.false c.if-links-i.false (descends _ _ (fits (goal.at.returns-then-not-link_ascends c).Else-not-link_fits) falls)

@@ -10,10 +10,10 @@ product : (c : After-word8-more) → (c.args.c % 256) * c.word8-more.result ≤ 
 product c = small (omega arith) (omega arith)
 
 pub overflow_mul-result : goal.overflow_mul-result
-overflow_mul-result c = omega (arith, product (goal.at.overflow_mul-result c).After-word8-more
+overflow_mul-result c = omega (arith, product (goal.at.overflow_mul-result c).After-word8-more)
 
 pub overflow_add-result : goal.overflow_add-result
-overflow_add-result c = omega (arith, product (goal.at.overflow_add-result c).After-word8-more
+overflow_add-result c = omega (arith, product (goal.at.overflow_add-result c).After-word8-more)
 
 -- the one exit
 pub returns : goal.returns

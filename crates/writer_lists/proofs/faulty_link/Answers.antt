@@ -12,18 +12,18 @@ loop-i-init c = pass_none _ _
 -- a link that breaks the rules by itself
 pub returns-then-not-link_whole : goal.returns-then-not-link_whole
 returns-then-not-link_whole c =
-    stop_bad c.loop-i.invariant c.loop-i-test.taken (not_whole _ _ _ (sym c.link_whole.ensures ∙ not-true c.link_whole.result c.if-not-link_whole.true-raw))
+    stop_bad c.loop-i.invariant c.loop-i-test.true (not_whole _ _ _ (sym c.link_whole.ensures ∙ not-true c.link_whole.result c.if-not-link_whole.true-raw))
 
 -- a link that repeats an earlier pair
 pub returns-then-repeated : goal.returns-then-repeated
 returns-then-repeated c =
     let whole = sym c.link_whole.ensures ∙ not-false c.link_whole.result c.if-not-link_whole.false-raw in
-    stop_bad c.loop-i.invariant c.loop-i-test.taken (a_repeat _ _ _ whole (sym c.repeated.ensures ∙ c.if-repeated.true))
+    stop_bad c.loop-i.invariant c.loop-i-test.true (a_repeat _ _ _ whole (sym c.repeated.ensures ∙ c.if-repeated.true))
 
 pub loop-i-preserved : goal.loop-i-preserved
 loop-i-preserved c =
     let whole = sym c.link_whole.ensures ∙ not-false c.link_whole.result c.if-not-link_whole.false-raw in
-    pass_one c.loop-i.invariant c.loop-i-test.taken (no_repeat _ _ _ whole (sym c.repeated.ensures ∙ c.if-repeated.false))
+    pass_one c.loop-i.invariant c.loop-i-test.true (no_repeat _ _ _ whole (sym c.repeated.ensures ∙ c.if-repeated.false))
 
 -- there is none
 pub returns : goal.returns

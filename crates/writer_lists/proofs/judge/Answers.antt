@@ -41,14 +41,14 @@ pub returns-then-p-n8 : goal.returns-then-p-n8
 unfolding devices_given
 returns-then-p-n8 c =
     let a = c.args in
-    bad_device_lem a.devices.now a.links.now (counts (goal.at.returns-then-p-n8 c).Else-m-gt-LINKS c.faulty_device-p.result c.faulty_device-p.ensures c.if-p-n8.true
+    bad_device_lem a.devices.now a.links.now (counts (goal.at.returns-then-p-n8 c).Else-m-gt-LINKS) c.faulty_device-p.result c.faulty_device-p.ensures c.if-p-n8.true
 
 -- ---- 7: a faulty link
 pub returns-then-i-m16 : goal.returns-then-i-m16
 unfolding devices_given links_given
 returns-then-i-m16 c =
     let a = c.args in
-    bad_link_lem a.devices.now a.links.now (counts (goal.at.returns-then-i-m16 c).Else-m-gt-LINKS c.faulty_device-p.result c.faulty_device-p.ensures c.if-p-n8.false
+    bad_link_lem a.devices.now a.links.now (counts (goal.at.returns-then-i-m16 c).Else-m-gt-LINKS) c.faulty_device-p.result c.faulty_device-p.ensures c.if-p-n8.false
     c.faulty_link-i.result c.faulty_link-i.ensures c.if-i-m16.true
 
 -- ---- none of these
@@ -56,5 +56,5 @@ pub returns : goal.returns
 unfolding devices_given links_given
 returns c =
     let a = c.args in
-    good a.devices.now a.links.now (counts (goal.at.returns c).Else-m-gt-LINKS c.faulty_device-p.result c.faulty_device-p.ensures c.if-p-n8.false
+    good a.devices.now a.links.now (counts (goal.at.returns c).Else-m-gt-LINKS) c.faulty_device-p.result c.faulty_device-p.ensures c.if-p-n8.false
     c.faulty_link-i.result c.faulty_link-i.ensures c.if-i-m16.false

@@ -21,4 +21,4 @@ many_words c = let g = c.well_formed.0 in search rules
 pub returns : goal.returns
 returns c =
     let e = c.sound.ensures in
-    record { test = e; sound = λ t. (sound_iff _ (shaped_in _ _ (many_bytes (goal.at.returns c).Start (many_words (goal.at.returns c).Start)).0 (sym e ∙ t) }
+    record { test = e; sound = λ t. (sound_iff _ (shaped_in _ _ (many_bytes (goal.at.returns c).Start) (many_words (goal.at.returns c).Start))).0 (sym e ∙ t) }
