@@ -8,7 +8,7 @@ use Rattle.list_text.proofs.gather.Goals as goal
 -- one line more
 pub loop-start-preserved : goal.loop-start-preserved
 loop-start-preserved c =
-    gathering_more c.loop-start.invariant c.line_at_lem.ensures c.put_entry-at.ensures
+    gathering_more c.loop-start.invariant c.line_at-line.ensures c.put_entry-at.ensures
 
 -- the end of the text
 pub returns : goal.returns

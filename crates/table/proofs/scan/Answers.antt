@@ -11,7 +11,7 @@ use Rattle.table.proofs.scan.Goals as goal
 use Rattle.table.proofs.scan.Goals.{Else-not-link_fits}
 
 -- that link fits
-fits : (c : Else-not-link_fits) → link_fits (at.args.t.now) c.entries.i ≡ true
+fits : (c : Else-not-link_fits) → link_fits c.args.t.now c.entries.i ≡ true
 fits c = sym c.link_fits.ensures ∙ not-false c.link_fits.result c.if-not-link_fits.false-raw
 
 pub entries-init : goal.entries-init
