@@ -1,4 +1,6 @@
 -- `keeper_answers::status_from` meets its contract. Assumes nothing.
+use Rattle.std.proofs.Common.{◌≢◌}
+use native.Mathlib.Omega.{arith}
 use borrow.Author.Tests.{ne_eqb}
 use Rattle.model.specs.Logic.{if◌then◌else◌}
 use Rattle.keeper_answers.proofs.status_from.Goals as goal
@@ -20,5 +22,7 @@ returns-in-2 c = rw c.in-2.is
 pub returns-in_default : goal.returns-in_default
 unfolding if◌then◌else◌
 returns-in_default c =
-    let n = c.in-0.rest in
-    rw (ne_eqb _ 0 n.0.0.1, ne_eqb _ 1 n.0.1, ne_eqb _ 2 n.1)
+    let zero : c.args.x ≢ 0 = omega arith in
+    let one : c.args.x ≢ 1 = omega arith in
+    let two : c.args.x ≢ 2 = omega arith in
+    rw (ne_eqb _ 0 zero, ne_eqb _ 1 one, ne_eqb _ 2 two)

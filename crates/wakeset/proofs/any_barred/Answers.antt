@@ -10,11 +10,10 @@ loop-q-init c = (omega arith, ((λ l. l), heard_start))
 
 pub loop-q-preserved : goal.loop-q-preserved
 loop-q-preserved c =
-    let turn = at in
-    let inv = turn.loop-q.invariant in (
+    let inv = c.loop-q.invariant in (
       omega arith,
       (
-        (λ l. omega (arith, turn.loop-q-test.true)),
+        (λ l. omega (arith, c.loop-q-test.true)),
         rw (c.either-found.ensures, c.both.ensures, c.bars.ensures, c.row.ensures.0) (heard_more inv.0 inv.1.1),
       ),
     )

@@ -19,6 +19,7 @@ loop-i-init c = (omega arith, (omega arith, λ words long. among_none))
 
 -- one link more
 pub loop-i-preserved : goal.loop-i-preserved
+unfolding ROWS
 loop-i-preserved c =
     let inv = c.loop-i.invariant in (
       omega arith,
@@ -35,12 +36,10 @@ pub returns : goal.returns
 unfolding ROWS
 returns c =
     let inv = c.loop-i.invariant in
-    let parent-marked = at in
-    let parent = parent-marked in
     record {
       is =
           λ words long.
-          let above = rw (parent.on_parent.ensures words, parent.parent.ensures words) at (parent-marked.mark-least.ensures long) in
+          let above = rw (c.on_parent.ensures words, c.parent.ensures words) at (c.mark-least.ensures long) in
           let links = among_end _ c.loop-i.i _ inv.0 c.loop-i-test.false inv.1.0 (inv.1.1 words (above.long ∙ long)) in
           adds_then above (rw (c.wide-i.ensures, c.wide-end.ensures, c.row-at.ensures.0) at links);
     }

@@ -30,7 +30,7 @@ loop-low-preserved c =
 -- before the loop t is marked and passed, where it sleeps and no other mark was there
 begins : (c : After-pass-low) → let a = c.args in
     (words : List ℕ) → a.marks.now ≡ replicate ROWS false → status_at (state_in a.bytes.now words) a.t < ACTIVE →
-    Swept (state_in a.bytes.now words) a.first.now a.t a.t c.pass-low.new.1.1.1.0 c.pass-low.result
+    Swept (state_in a.bytes.now words) a.first.now a.t a.t c.pass-low.new.marks c.pass-low.result
 unfolding ROWS
 begins c words none z =
     let marked = c.pass-low.ensures.is words (rw none (length-set (replicate ROWS false) c.row.result true ∙ length-replicate ROWS false)) in
@@ -41,7 +41,13 @@ pub each_step : (c : At-loop-low) → let a = c.args in
     (words : List ℕ) → let s = state_in a.bytes.now words in
     Listed s.wiring a.first.now → a.t < s.wiring.n → a.marks.now ≡ replicate ROWS false → status_at s a.t < ACTIVE →
     Exact s a.t c.loop-low.q c.loop-low.marks
-each_step c words h l none z = exact h l (c.loop-low.invariant.1 words (begins words none z))
+unfolding ROWS
+each_step c words h l none z =
+    let a = c.args in
+    let marked = c.pass-low.ensures.is words (rw none (length-set (replicate ROWS false) c.row.result true ∙ length-replicate ROWS false)) in
+    let begun : Swept (state_in a.bytes.now words) a.first.now a.t a.t c.pass-low.new.marks c.pass-low.result =
+        swept_start _ _ _ (omega arith) (omega arith) z (rw (c.row.ensures.0, none) at marked) in
+    exact h l (c.loop-low.invariant.1 words begun)
 
 -- the lowest mark is reached
 pub returns : goal.returns
