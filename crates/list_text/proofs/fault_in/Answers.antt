@@ -1,7 +1,6 @@
 -- `list_text::fault_in` meets its contract. The invariant: the lines that are left, counted on, have the fault that all lines have.
 -- Assumes nothing.
 use borrow.Enum.Refused.{opened}
-use Prim.Native.Nat.{◌-◌}
 use native.Mathlib.Omega.{arith}
 use Rattle.list_text.proofs.Numbering.{faulting_start, faulting_more, faulting_large, faulting_wrong, faulting_none}
 use Rattle.list_text.proofs.fault_in.Goals as goal

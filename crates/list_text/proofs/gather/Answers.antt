@@ -1,6 +1,5 @@
 -- `list_text::gather` meets its contract. The invariant: the bytes of the lines that are left, stored after those of the lines passed, make what
 -- is asked for. They are few enough to be counted, since a line with three bytes has two places of the text at least. Assumes nothing.
-use Prim.Native.Nat.{◌-◌}
 use native.Mathlib.Omega.{arith}
 use Rattle.list_text.proofs.Gathering.{gathering_start, gathering_more, gathering_end}
 use Rattle.list_text.proofs.gather.Goals as goal

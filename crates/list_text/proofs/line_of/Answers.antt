@@ -1,7 +1,6 @@
 -- `list_text::line_of` meets its contract. The invariant: among the lines that are left, counted on, the entry has those ahead of it that are
 -- still to be passed. Assumes nothing.
 use mathlib.Core.Path.{sym, ◌∙◌}
-use Prim.Native.Nat.{◌-◌}
 use native.Mathlib.Omega.{arith}
 use Rattle.list_text.proofs.Numbering.{looking_start, looking_on, looking_past, looking_here, looking_none}
 use Rattle.list_text.proofs.line_of.Goals as goal
@@ -18,7 +17,7 @@ loop-start-preserved c =
     let inv = c.loop-start.invariant in
     let sort = sym c.is_of.ensures in
     elim c.if-is_of.branch [
-      then-is_of+else-ahead-eq0 w ↦ rw w.ahead-is (looking_past inv c.line_at-line.ensures (sort ∙ w.if-is_of.true) w.if-ahead-eq0.false)
+      | then-is_of+else-ahead-eq0 w ↦ rw w.ahead-is (looking_past inv c.line_at-line.ensures (sort ∙ w.if-is_of.true) w.if-ahead-eq0.false)
       | else-is_of w ↦ rw w.ahead-is (looking_on inv c.line_at-line.ensures (sort ∙ w.if-is_of.false))
     ]
 

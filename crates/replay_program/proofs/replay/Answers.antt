@@ -1,8 +1,11 @@
 -- A refused table is told; one that is taken is replayed from its bench, and the bench that is saved and told is the last one. Assumes nothing.
 use mathlib.Core.Path.{refl, sym, ap, ◌∙◌}
 use mathlib.Core.Logic.{⊎_elim}
+use borrow.Enum.Refused.{opened}
 use Rattle.model.specs.State.{Loaded}
-use Rattle.table.proofs.Handing.{refused, taken}
+use Rattle.table.specs.declared.Answer.{Answer}
+use Rattle.table.specs.Answers.{answer_of}
+use Rattle.table.proofs.Handing.{refused}
 use Rattle.replay_session.proofs.Sessions.{ran_done, ran_failed, judged_refused, judged_taken}
 use Rattle.replay_program.proofs.replay.Goals as goal
 
@@ -12,14 +15,14 @@ pub returns-in_default : goal.returns-in_default
 returns-in_default g c =
     let load = c.load-loaded in
     let number = ap (λ (l : Loaded). l.answer.number) load.ensures in
-    judged_refused (λ z. refused load.result.answer c.in_default.is (number ∙ z)) c.refuse.ensures
+    judged_refused (λ z. refused load.result.answer (opened c.in_default.in_default-own.keys2) (number ∙ z)) c.refuse.ensures
 
 -- the replay of the log ends early
 pub returns-in_default-end : goal.returns-in_default-end
 returns-in_default-end g c =
     let load = c.load-loaded in
     let number = ap (λ (l : Loaded). l.answer.number) load.ensures in
-    judged_taken (sym number ∙ taken load.result.answer c.in-Taken.is) c.named-session.ensures.ran
+    judged_taken (sym number ∙ ap (λ (a : Answer). (answer_of a).number) c.in-Taken.is) c.named-session.ensures.ran
 
 -- what was fed, from its bench on
 pub keep-kept-requires : goal.keep-kept-requires
@@ -29,7 +32,7 @@ keep-kept-requires g c =
       load = record { table = c.args.table.now; result = load.result };
       given = refl;
       met = load.ensures;
-      taken = taken load.result.answer c.in-Taken.is;
+      taken = ap (λ (a : Answer). (answer_of a).number) c.in-Taken.is;
       poured = c.named-session.ensures.poured;
     }
 
@@ -38,7 +41,7 @@ pub returns-in_default-kept : goal.returns-in_default-kept
 returns-in_default-kept g c =
     let load = c.load-loaded in
     let number = ap (λ (l : Loaded). l.answer.number) load.ensures in
-    judged_taken (sym number ∙ taken load.result.answer c.in-Taken.is) c.keep-kept.ensures
+    judged_taken (sym number ∙ ap (λ (a : Answer). (answer_of a).number) c.in-Taken.is) c.keep-kept.ensures
 
 pub tell-requires : goal.tell-requires
 tell-requires g c =
@@ -47,7 +50,7 @@ tell-requires g c =
       load = record { table = c.args.table.now; result = load.result };
       given = refl;
       met = load.ensures;
-      taken = taken load.result.answer c.in-Taken.is;
+      taken = ap (λ (a : Answer). (answer_of a).number) c.in-Taken.is;
       poured = c.named-session.ensures.poured;
     }
 
@@ -56,4 +59,4 @@ pub returns : goal.returns
 returns g c =
     let load = c.load-loaded in
     let number = ap (λ (l : Loaded). l.answer.number) load.ensures in
-    judged_taken (sym number ∙ taken load.result.answer c.in-Taken.is) (⊎_elim ran_done ran_failed c.tell.ensures)
+    judged_taken (sym number ∙ ap (λ (a : Answer). (answer_of a).number) c.in-Taken.is) (⊎_elim ran_done ran_failed c.tell.ensures)
