@@ -47,8 +47,12 @@ pub fn complain(rt: &(impl Eprint + Alloc), program: &[u8], what: &[u8], error: 
     say(rt, program);
     say(rt, what);
     say(rt, b": ");
-    if let Ok(text) = error.to_string(rt.alloc()) {
-        say(rt, reason(&text).as_bytes());
+    match error.to_string(rt.alloc()) {
+        Ok(text) => say(rt, reason(&text).as_bytes()),
+        // Without memory for the text the reason is printed as the library has it.
+        Err(_) => {
+            let _ = rt.eprint(error);
+        }
     }
     say(rt, b"\n");
 }
