@@ -24,8 +24,7 @@ export TMPDIR := $(shell tests/scratch)
 # one core for the times, where that can be asked for
 PIN := $(shell command -v taskset > /dev/null && echo taskset -c 0)
 
-# the proved programs, with exit statuses; those of host/ run them
-PROGRAMS := replay_run resume_run write_run list_run
+PROGRAMS := replay_program resume_program write_program list_program
 
 .PHONY: run programs c-host scripts test built listed second sample harness compare states feeds replayed hosted bench
 
@@ -33,26 +32,24 @@ DAY := examples/day
 
 run:
 	@echo "step 1 of 2: compiling the programs; 'make test' proves the same files, 'make programs' builds them proved"
-	@tests/unproved $(UNPROVED) replay_run > /dev/null
-	@cd host && cargo build --release --offline --quiet
+	@tests/archives $(UNPROVED) $(PROGRAMS) > /dev/null
+	@cd host && KEEPER_ARCHIVES=$(UNPROVED) cargo build --release --offline --quiet
 	@mkdir -p target/day
 	@echo "step 2 of 2: the log of $(DAY), replayed in pieces of 5 bytes:"
-	@KEEPER_PROGRAMS=$(UNPROVED) host/target/release/replay $(DAY)/table.bin $(DAY)/log.bin target/day/replies.bin 5
+	@host/target/release/replay $(DAY)/table.bin $(DAY)/log.bin target/day/replies.bin 5
 	@echo "each record of the log, and the reply to it:"
 	@examples/show $(DAY)/log.bin target/day/replies.bin
 	@cmp target/day/replies.bin $(DAY)/replies.bin && echo "the replies are those of document 01"
 
-# the programs, with their exit statuses. `rt run` proves the crates below one, builds it and runs it; a crate that has not changed is not
-# proved again.
+# the programs, with their exit statuses. The crates below them are proved two at a time, which `rt staticlib` would not do; each is named
+# as it is proved, and a crate that has not changed is not proved again.
 programs:
-	@echo "step 1 of 2: proving, building and trying the keeper and the programs, crate by crate"
-	@cd crates/replay_run && rt run -- $(CURDIR)/$(DAY)/table.bin $(CURDIR)/$(DAY)/log.bin /dev/null > /dev/null
-	@cd crates/resume_run && rt run -- $(CURDIR)/$(DAY)/state.bin /dev/null /dev/null > /dev/null
-	@cd crates/write_run && rt run -- $(CURDIR)/examples/wiring/list.txt /dev/null > /dev/null
-	@cd crates/list_run && rt run -- $(CURDIR)/examples/wiring/table.bin > /dev/null
-	@echo "step 2 of 2: building the programs of host/, and the proved ones beside them"
+	@echo "step 1 of 3: proving the keeper and the programs, crate by crate (some six minutes on two cores)"
+	@rt check $(PROGRAMS) 2>&1 | grep --line-buffered -E '^rt:| error: '
+	@echo "step 2 of 3: building the proved libraries"
+	@for p in $(PROGRAMS); do rt staticlib $$p 2>&1 | grep --line-buffered -E '^rt: target| error: ' || exit 1; done
+	@echo "step 3 of 3: building the programs"
 	@cd host && cargo build --release --offline --quiet
-	@for p in $(PROGRAMS); do cp crates/$$p/out/$$p host/target/release/ || exit 1; done
 
 # the calls for a C host: the library, which a C or C++ program is linked with, and its header
 c-host:
@@ -80,10 +77,9 @@ test: listed
 	rt ci
 
 built:
-	tests/archives $(UNPROVED) export_cells export_sizes export_wakes export_states export_tables export_feed export_bench export_saved c_host
-	tests/unproved $(UNPROVED) $(PROGRAMS)
+	tests/archives $(UNPROVED) export_cells export_sizes export_wakes export_states export_tables export_feed export_bench export_saved c_host $(PROGRAMS)
 	cd tests/compare && KEEPER_ARCHIVES=$(UNPROVED) cargo build --release --offline --quiet
-	cd host && cargo build --release --offline --quiet
+	cd host && KEEPER_ARCHIVES=$(UNPROVED) cargo build --release --offline --quiet
 
 # every folder of crates/ stands in crates.txt, and every must-fail edit finds its text
 listed:
@@ -131,9 +127,7 @@ states:
 feeds:
 	tests/compare/target/release/compare feed $(SEED) $(FEEDS)
 
-# the programs on files of every sort; the toolchain's verdict runs the same code as crates/replay, resume, write and list, and as the crates
-# of these names with `_run`
-replayed: export KEEPER_PROGRAMS := $(UNPROVED)
+# the programs on files of every sort; the toolchain's verdict runs the same libraries as target/bin/replay, resume, write and list
 replayed:
 	tests/replay/check host/target/release/replay host/target/release/resume statuses
 	tests/lists/check host/target/release/write host/target/release/list
