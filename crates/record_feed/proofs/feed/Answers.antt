@@ -1,7 +1,6 @@
 -- `record_feed::feed` meets its contract. The number of a piece follows from the soundness test and the lengths alone; a piece that is taken
 -- leads where the plain keeper leads. Assumes nothing.
 use mathlib.Core.Path.{◌≡◌, refl, sym, ◌∙◌}
-use Rattle.model.specs.State.{State}
 use Rattle.model.specs.SoundTest.{sound_test}
 use Rattle.model.proofs.Chains.{passed, failed}
 use Rattle.memory.specs.Layout.{state_in}

@@ -1,7 +1,6 @@
 -- Where bytes are carried, the first record is answered by itself, then those of the piece. Assumes nothing.
 use mathlib.Core.Path.{◌≡◌}
-use mathlib.Core.List.{List}
-use Prim.Native.Nat.{ℕ, ◌≤◌}
+use Prim.Native.Nat.{◌≤◌}
 use native.Mathlib.Omega.{arith}
 use lib.ListN.{length}
 use Rattle.record_loop.specs.Runs.{joined, Room}

@@ -1,8 +1,6 @@
 -- Kind 6's put was -75 or left the device in use, and ends the request; else the code chosen is 0 only where every test of the kind
 -- passed, and otherwise it is that of the first that did not. Assumes nothing.
 use mathlib.Core.Path.{◌≡◌, refl, sym, ◌∙◌}
-use mathlib.Core.List.{List}
-use Prim.Native.Nat.{ℕ}
 use lib.Dec.{ltb}
 use borrow.Author.Tests.{lt-ltb, le-ltb}
 use Rattle.model.proofs.Basics.{never}

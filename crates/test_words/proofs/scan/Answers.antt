@@ -4,7 +4,6 @@ use mathlib.Core.Path.{refl, sym, ◌∙◌}
 use Prim.Native.Nat.{◌-◌}
 use native.Mathlib.Omega.{arith}
 use native.Mathlib.Numerals.{add-one}
-use Rattle.test_words.specs.Words.{before}
 use Rattle.test_words.proofs.Scanning.{scan_here, scan_on, scan_end}
 use Rattle.test_words.proofs.scan.Goals as goal
 
