@@ -1,8 +1,7 @@
 -- `list_text::fault_in` meets its contract. The invariant: the lines that are left, counted on, have the fault that all lines have.
 -- Assumes nothing.
-use borrow.Enum.Refused.{opened}
 use native.Mathlib.Omega.{arith}
-use Rattle.list_text.proofs.Numbering.{faulting_start, faulting_more, faulting_large, faulting_wrong, faulting_none}
+use Rattle.list_text.proofs.Numbering.{faulting_start, faulting_more, faulting_large, faulting_wrong, faulting_none, no_fault}
 use Rattle.list_text.proofs.fault_in.Goals as goal
 
 -- a number over 255
@@ -17,7 +16,7 @@ returns-in-Wrong c =
 
 -- a line of a list
 pub loop-start-preserved : goal.loop-start-preserved
-loop-start-preserved c = faulting_more c.loop-start.invariant c.line_at-line.ensures (opened c.in_default.in_default-own.keys3)
+loop-start-preserved c = faulting_more c.loop-start.invariant c.line_at-line.ensures (no_fault c.line_at-line.result.entry c.in_default.not-Large c.in_default.not-Wrong)
 
 -- the end of the text
 pub returns : goal.returns

@@ -15,7 +15,7 @@ use Rattle.replay_text.proofs.line.word.Goals as goal
 pub returns-then-used-gt-ROOM : goal.returns-then-used-gt-ROOM
 unfolding added if◌then◌else◌
 returns-then-used-gt-ROOM c =
-    let start = c.before.before.args in
+    let start = c.args in
     let h : 256 < start.line.used + length start.text.now = omega arith in
     rw (lt-leb _ _ h)
 
@@ -23,21 +23,19 @@ returns-then-used-gt-ROOM c =
 pub returns-then-text-used : goal.returns-then-text-used
 unfolding added if◌then◌else◌
 returns-then-text-used c =
-    let start = c.before.before.before.args in
+    let start = c.args in
     let h : 256 < start.line.used + length start.text.now = omega arith in
     rw (lt-leb _ _ h)
 
 pub loop-i-init : goal.loop-i-init
 loop-i-init c =
-    let start = c.before.before.before in
-    let g = start.well_formed.0 in
-    (omega arith, omega arith, (search rules), paste-zero start.args.line.bytes start.args.line.used start.args.text.now)
+    let g = c.well_formed.0 in
+    (omega arith, omega arith, (search rules), paste-zero c.args.line.bytes c.args.line.used c.args.text.now)
 
 pub loop-i-preserved : goal.loop-i-preserved
 loop-i-preserved c =
-    let head = c.before.before in
-    let start = head.before.before.before.before.args in
-    let at = head.loop-i in
+    let start = c.args in
+    let at = c.loop-i in
     let l = at.invariant.2 in
     let h : start.line.used + at.i < length start.line.bytes = omega arith in
     let m : at.i < length start.text.now = omega arith in
@@ -48,9 +46,8 @@ loop-i-preserved c =
 pub returns : goal.returns
 unfolding added if◌then◌else◌
 returns c =
-    let head = c.before in
-    let start = head.before.before.before.before.args in
-    let at = head.loop-i in
+    let start = c.args in
+    let at = c.loop-i in
     let e : at.i ≡ length start.text.now = omega arith in
     let h : start.line.used + length start.text.now ≤ 256 = omega arith in
     rw (le-leb _ _ h, at.invariant.3, e, take-length start.text.now)
