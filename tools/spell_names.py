@@ -117,6 +117,54 @@ def turned_page(text, names, known):
     return re.sub(r"`[^`\n]+`", lambda m: TOKEN.sub(word, m.group(0)), text)
 
 
+# rt ci keeps the name if◌then◌else◌ for the library's own, which computes otherwise in proofs: the model's is when◌then◌else◌.
+CHOICE = re.compile(r"(?<![\w.'◌-])if(?=\s)")
+OWN = re.compile(r"Rattle\.model\.specs\.Logic\.\{[^}]*if◌then◌else◌|^unfoldable pub if◌then◌else◌", re.M)
+
+
+def chosen(text):
+    """The text of an .antt file, or of a clause, with the model's choice under its new name."""
+    lines = text.split("\n")
+    code = [re.split(r"(?<!\S)--", l, maxsplit=1) for l in lines]
+    whole = "\n".join(c[0] for c in code)
+    whole = CHOICE.sub("when", whole).replace("if◌then◌else◌", "when◌then◌else◌")
+    return "\n".join(a + ("--" + c[1] if len(c) > 1 else "") for a, c in zip(whole.split("\n"), code))
+
+
+def clauses(text):
+    """The spans of the clauses and of the ghost uses of an .rt file."""
+    for m in re.finditer(r"^[ \t]*(?:ensures|requires)\b[^{\n]*\{|^ghost use [^;]*;", text, re.M):
+        end, depth = m.end(), 0
+        if text[end - 1] == "{":
+            depth = 1
+            while depth:
+                depth += {"{": 1, "}": -1}.get(text[end], 0)
+                end += 1
+        yield m.start(), end
+
+
+def spell_choice(root):
+    own = {p for p in files(root, (".antt", ".rt")) if OWN.search(read(p))}
+    for p in sorted(own):
+        t = read(p)
+        if p.endswith(".antt"):
+            write(p, chosen(t))
+        else:
+            for a, b in reversed(list(clauses(t))):
+                t = t[:a] + chosen(t[a:b]) + t[b:]
+            write(p, t)
+    for p in files(root, ".edit"):
+        t, of, out = read(p), None, []
+        for line in t.split("\n"):
+            if line.startswith("file: "):
+                of = os.path.join(root, *os.path.relpath(p, root).split(os.sep)[:2], line[6:])
+            elif of in own and line.startswith(("old: ", "new: ")) and (of.endswith(".antt") or re.search(r"\bensures\b|\brequires\b", line)):
+                line = line[:5] + chosen(line[5:])
+            out.append(line)
+        if "\n".join(out) != t:
+            write(p, "\n".join(out))
+
+
 def together(root, names):
     for p in files(root, ".antt"):
         t = read(p)
@@ -174,6 +222,7 @@ def main(argv):
                 u = turned_page(t, names, known)
                 if u != t:
                     write(p, u)
+    spell_choice(root)
     p = os.path.join(root, "README.md")
     t = read(p)
     u = turned_page(t, names, known)

@@ -3,7 +3,7 @@
 
 ghost use Rattle.std.specs.Prelude.{◌≡◌, ◌<◌};
 ghost use Rattle.model.specs.Limits.{ROWS};
-ghost use Rattle.model.specs.Logic.{if◌then◌else◌, ◌and◌, ◌or◌};
+ghost use Rattle.model.specs.Logic.{when◌then◌else◌, ◌and◌, ◌or◌};
 
 // The row of a device, which every device column has.
 pub fn row(x: u8) -> usize
@@ -75,7 +75,7 @@ pub fn either(a: bool, b: bool) -> bool
 
 // The first code where the test holds, else the second.
 pub fn choose(test: bool, a: u16, b: u16) -> u16
-    ensures { result ≡ (if test then a else b) }
+    ensures { result ≡ (when test then a else b) }
 {
     if test { a } else { b }
 }

@@ -6,16 +6,16 @@ use native.Mathlib.Decide.{dec_lt}
 use lib.IntN.{pos, neg_ℤ}
 use lib.Dec.{leb}
 use borrow.Author.Tests.{eq-eqb, ne_eqb, lt-ltb, le-ltb, le-leb}
-use Rattle.model.specs.Logic.{if◌then◌else◌}
+use Rattle.model.specs.Logic.{when◌then◌else◌}
 use Rattle.model.specs.Limits.{NONE}
 use Rattle.c_calls.specs.Numbers.{RANGE, answered, refusal_in, count_in, device_of}
 
 pub answered_refused : (number value : ℕ) → (number ≡ 0 → ⊥) → answered number value ≡ neg_ℤ (pos number)
-unfolding answered if◌then◌else◌
+unfolding answered when◌then◌else◌
 answered_refused number value ne = rw (ne_eqb _ _ ne)
 
 pub answered_given : (number value : ℕ) → number ≡ 0 → answered number value ≡ pos value
-unfolding answered if◌then◌else◌
+unfolding answered when◌then◌else◌
 answered_given number value e = rw (eq-eqb _ _ e)
 
 -- ---- results, read back
@@ -45,11 +45,11 @@ answered_code number value l h =
 -- ---- devices
 -- a device that there is
 pub device_known : (n p : ℕ) → n ≤ NONE → p < n → device_of p ≡ p
-unfolding device_of if◌then◌else◌
+unfolding device_of when◌then◌else◌
 device_known n p few l = rw (lt-ltb p NONE (omega arith))
 
 -- a part number is below n exactly when its device is
 pub device_same : (n p : ℕ) → n ≤ NONE → leb n (device_of p) ≡ leb n p
-unfolding device_of if◌then◌else◌
+unfolding device_of when◌then◌else◌
 device_same n p few =
     elim (dec_lt p NONE) [ yes l ↦ rw (lt-ltb p NONE l) | no g ↦ rw (le-ltb p NONE (omega arith), le-leb n NONE few, le-leb n p (omega arith)) ]

@@ -7,7 +7,7 @@ use native.Mathlib.Omega.{arith}
 use lib.Dec.{leb}
 use borrow.Author.Tests.{leb-false, not-true, ne_eqb}
 use Rattle.model.specs.Limits.{LINKS, NONE}
-use Rattle.model.specs.Logic.{if◌then◌else◌, ◌or◌, bit}
+use Rattle.model.specs.Logic.{when◌then◌else◌, ◌or◌, bit}
 use Rattle.model.specs.State.{State, status_at, holds_at, children_at, usage}
 use Rattle.model.specs.Sound.{Sound}
 use Rattle.model.specs.SoundTest.{sound_test}
@@ -37,17 +37,17 @@ pub record Fair (f : Question) : Type 0 where
 -- ---- what is told
 module _ (s : State) where
   told_unsound : (known : Bool) (v : ℕ) → sound_test s ≡ false → told s known v ≡ refusal 21
-  unfolding told if◌then◌else◌
+  unfolding told when◌then◌else◌
   told_unsound known v e = rw e
 
   -- on a sound bench
   module _ (h : Sound s) where
     told_unknown : (v : ℕ) → told s false v ≡ refusal 24
-    unfolding told if◌then◌else◌
+    unfolding told when◌then◌else◌
     told_unknown v = rw (sound_tested h)
 
     told_known : (v : ℕ) → told s true v ≡ record { number = 0; value = v }
-    unfolding told if◌then◌else◌
+    unfolding told when◌then◌else◌
     told_known v = rw (sound_tested h)
 
     -- the value counts only where all parts are known
@@ -126,7 +126,7 @@ unknown_fair =
 
 -- ---- all of them
 pub ask_past : (question : ℕ) (s : State) (p q : ℕ) → 6 ≤ question → ask question s p q ≡ told s false 0
-unfolding ask if◌then◌else◌
+unfolding ask when◌then◌else◌
 ask_past question s p q l =
     rw (
       ne_eqb question 0 (omega arith),

@@ -9,7 +9,7 @@ use native.Mathlib.Decide.{dec_lt}
 use lib.ListN.{length}
 use lib.IntN.{ℤ, pos, neg_ℤ}
 use borrow.Author.Tests.{ne_eqb}
-use Rattle.model.specs.Logic.{if◌then◌else◌}
+use Rattle.model.specs.Logic.{when◌then◌else◌}
 use Rattle.model.specs.State.{State, Loaded, empty_state, load_of}
 use Rattle.model.specs.Sound.{Sound}
 use Rattle.model.specs.SoundTest.{sound_test}
@@ -36,12 +36,12 @@ load_gave result state = record { result = result; state = state }
 module _ (table state : List ℕ) {l : Loaded} (gave : l ≡ load_of table) where
   -- by its own number
   pub load_refused : (l.answer.number ≡ 0 → ⊥) → load_gave (neg_ℤ (pos l.answer.number)) state ≡ load_bytes table state
-  unfolding load_bytes answered if◌then◌else◌
+  unfolding load_bytes answered when◌then◌else◌
   load_refused ne = rw (← gave, ne_eqb _ _ ne)
 
   -- by what saving answers
   pub load_saved : {w : Saved} → l.answer.number ≡ 0 → w ≡ save_of l.state state → load_gave (answered w.number 0) w.buffer ≡ load_bytes table state
-  unfolding load_bytes if◌then◌else◌
+  unfolding load_bytes when◌then◌else◌
   load_saved e f = rw (← gave, e, f)
 
 -- a table that is taken leaves a sound bench
@@ -51,15 +51,15 @@ loaded_sound table gave e = rw gave (sound_tested (load_sound table (rw gave at 
 -- ---- a bench, judged
 module _ (s : State) where
   judged_same : sound_test s ≡ true → (judged_of s).state ≡ s
-  unfolding judged_of if◌then◌else◌
+  unfolding judged_of when◌then◌else◌
   judged_same e = rw e
 
   judged_none : sound_test s ≡ false → (judged_of s).state ≡ empty_state
-  unfolding judged_of if◌then◌else◌
+  unfolding judged_of when◌then◌else◌
   judged_none e = rw e
 
   fed_unsound : sound_test s ≡ false → (p : Piece) → feed_of s p ≡ record { number = 21; replies = 0; state = s; buffer = p.buffer }
-  unfolding feed_of feed_answer if◌then◌else◌
+  unfolding feed_of feed_answer when◌then◌else◌
   fed_unsound e p = rw e
 
 -- ---- feed
@@ -70,12 +70,12 @@ feed_gave result state replies = record { result = result; state = state; replie
 module _ (state : List ℕ) (p : Piece) where
   fed_refused : ((feed_of (bench_in state) p).number ≡ 0 → ⊥)
       → feed_gave (neg_ℤ (pos (feed_of (bench_in state) p).number)) state (feed_of (bench_in state) p).buffer ≡ feed_bytes state p
-  unfolding feed_bytes answered if◌then◌else◌
+  unfolding feed_bytes answered when◌then◌else◌
   fed_refused ne = rw (ne_eqb _ _ ne)
 
   fed_taken : (feed_of (bench_in state) p).number ≡ 0
       → feed_gave (pos (feed_of (bench_in state) p).replies) (save_of (feed_of (bench_in state) p).state state).buffer (feed_of (bench_in state) p).buffer ≡ feed_bytes state p
-  unfolding feed_bytes answered if◌then◌else◌
+  unfolding feed_bytes answered when◌then◌else◌
   fed_taken e = rw e
 
 -- for any bench that is it once it is judged: both give the same, but for the bench that a refusal hands back

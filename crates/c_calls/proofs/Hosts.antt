@@ -8,7 +8,7 @@ use lib.IntN.{pos}
 use lib.ListN.{length, take, drop, length-take}
 use lib.Seq.{take_at}
 use borrow.Author.Tests.{le-ltb, eqb-true, eqb-false}
-use Rattle.model.specs.Logic.{if◌then◌else◌}
+use Rattle.model.specs.Logic.{when◌then◌else◌}
 use Rattle.model.specs.State.{State, load_of}
 use Rattle.model.specs.Sound.{Sound}
 use Rattle.model.specs.Feed.{Piece, Fed, feed_of}
@@ -47,7 +47,7 @@ saved_holds {s} bytes h e =
     }
 
 save_number_lem : {s : State} (bytes : List ℕ) → Sound s → FORM ≤ length bytes → (save_of s bytes).number ≡ 0
-unfolding save_of save_number if◌then◌else◌
+unfolding save_of save_number when◌then◌else◌
 save_number_lem bytes h l = rw (sound_tested h, le-ltb _ _ l)
 
 -- ---- one piece
@@ -115,7 +115,7 @@ loaded_in table bytes =
 
 -- and with room a table that loads is taken
 pub load_taken : (table bytes : List ℕ) → (load_of table).answer.number ≡ 0 → FORM ≤ length bytes → (load_bytes table bytes).result ≡ pos 0
-unfolding load_bytes if◌then◌else◌
+unfolding load_bytes when◌then◌else◌
 load_taken table bytes e l = rw e (answered_given _ 0 (save_number_lem bytes (load_sound table e) l))
 
 pub agreed : (l : LoadCall) → LoadMet l → l.gave.result ≡ pos 0 → (cs : List FeedCall) → Linked l.gave.state cs → AllMet cs → AgreedBytes l.table l.gave.state cs

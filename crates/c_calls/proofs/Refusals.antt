@@ -3,7 +3,7 @@ use mathlib.Core.Path.{◌≡◌, refl, ◌∙◌}
 use mathlib.Core.List.{List}
 use Prim.Native.Nat.{ℕ}
 use borrow.Author.Tests.{ne_eqb}
-use Rattle.model.specs.Logic.{if◌then◌else◌}
+use Rattle.model.specs.Logic.{when◌then◌else◌}
 use Rattle.model.specs.State.{State, load_of}
 use Rattle.model.specs.Feed.{Piece, Fed, feed_of}
 use Rattle.model.proofs.Basics.{by_if}
@@ -28,7 +28,7 @@ fed_nothing s p = by_if P _ _ _ (λ e n. absurd (n refl)) (λ e n. record { repl
     P f = (f.number ≡ 0 → ⊥) → Nothing s p f
 
 pub feed_refused_nothing : FeedRefused
-unfolding feed_bytes if◌then◌else◌
+unfolding feed_bytes when◌then◌else◌
 feed_refused_nothing state p ne =
     let f = feed_of (bench_in state) p in
     let n : f.number ≡ 0 → ⊥ = λ e. ne (result_refusal f.number f.replies ∙ e) in
@@ -36,7 +36,7 @@ feed_refused_nothing state p ne =
 
 -- saving that is refused leaves the buffer
 saved_nothing : (s : State) (buffer : List ℕ) → ((save_of s buffer).number ≡ 0 → ⊥) → (save_of s buffer).buffer ≡ buffer
-unfolding save_of if◌then◌else◌
+unfolding save_of when◌then◌else◌
 saved_nothing s buffer n = rw (ne_eqb _ _ n)
 
 pub load_refused_nothing : LoadRefused

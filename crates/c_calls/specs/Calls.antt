@@ -1,6 +1,6 @@
 -- Request Five, "A C host": load a table into saved-state bytes, feed a piece against those bytes, ask about a part. Assumes nothing.
 use Rattle.std.specs.Prelude.{List, ℕ, ℤ, eqb}
-use Rattle.model.specs.Logic.{if◌then◌else◌}
+use Rattle.model.specs.Logic.{when◌then◌else◌}
 use Rattle.model.specs.State.{load_of}
 use Rattle.model.specs.Feed.{Piece, feed_of}
 use Rattle.model.specs.Questions.{Told}
@@ -19,7 +19,7 @@ unfoldable pub load_bytes : List ℕ → List ℕ → LoadGave
 load_bytes table state =
     let l = load_of table in
     let saved = save_of l.state state in
-    if eqb l.answer.number 0 then record { result = answered saved.number 0; state = saved.buffer }
+    when eqb l.answer.number 0 then record { result = answered saved.number 0; state = saved.buffer }
     else record { result = answered l.answer.number 0; state = state }
 
 -- what a call of feed gives: its result, the state bytes and the reply bytes
@@ -35,7 +35,7 @@ feed_bytes state piece =
     let fed = feed_of (bench_in state) piece in
     record {
       result = answered fed.number fed.replies;
-      state = if eqb fed.number 0 then (save_of fed.state state).buffer else state;
+      state = when eqb fed.number 0 then (save_of fed.state state).buffer else state;
       replies = fed.buffer;
     }
 

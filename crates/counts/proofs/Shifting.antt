@@ -10,7 +10,7 @@ use lib.Seq.{get_or-set_same, get_or-set_other, ext_get_or}
 use lib.Dec.{eqb, ltb}
 use borrow.Author.Tests.{eq-eqb, ne_eqb, eqb-true, lt-ltb, ltb-true, ltb-false}
 use Rattle.model.specs.Limits.{ROWS}
-use Rattle.model.specs.Logic.{if◌then◌else◌, ◌and◌, bit, tally, column}
+use Rattle.model.specs.Logic.{when◌then◌else◌, ◌and◌, bit, tally, column}
 use Rattle.model.specs.Table.{Wiring}
 use Rattle.model.specs.State.{powered, is_child, is_live, child_count, link_count, children_of, linked_of}
 use Rattle.model.proofs.Basics.{and_parts, and_of, by_if}
@@ -37,7 +37,7 @@ module _ (f g : ℕ → Bool) (key : ℕ → ℕ) (n i : ℕ) (up : Bool) (l : i
 
   -- the count at i's key is the next one, and the others stay
   tally_key : tally g key n (key i) ≡ next up (tally f key n (key i))
-  unfolding next if◌then◌else◌ ◌and◌
+  unfolding next when◌then◌else◌ ◌and◌
   tally_key = go up (rw (eq-eqb (key i) (key i) refl) at (change (key i)))
     where
       go : (u : Bool) → tally f key n (key i) + bit (u and true) ≡ tally g key n (key i) + bit (not u and true) → tally g key n (key i) ≡ next u (tally f key n (key i))
@@ -98,7 +98,7 @@ under_first t up key n i col none = follow_same (λ k. simp tests (λ z. none k 
 
 -- g below i, and f from there on
 unfoldable mixed : ℕ → (ℕ → Bool) → (ℕ → Bool) → ℕ → Bool
-mixed i g f k = if ltb k i then g k else f k
+mixed i g f k = when ltb k i then g k else f k
 
 mixed_turns : (s t : ℕ → Bool) (up : Bool) (i : ℕ) (f g : ℕ → Bool) → ((k : ℕ) → k < i → s k ≡ t k) → Turns s up f g → Turns (under i t) up f (mixed i g f)
 unfolding under mixed
@@ -134,7 +134,7 @@ under_more t up key n i a b c h k =
 -- below i and no further
 pub under_rest : (t : ℕ → Bool) (up : Bool) (key : List ℕ) (n i : ℕ) (a b : List ℕ) → ((k : ℕ) → i ≤ k → k < n → t k ≡ false) →
     Follows (under i t) up key n a b → Follows t up key n a b
-unfolding mixed if◌then◌else◌
+unfolding mixed when◌then◌else◌
 under_rest t up key n i a b none h =
     record {
       follows =

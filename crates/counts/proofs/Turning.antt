@@ -9,7 +9,7 @@ use lib.Seq.{set-get_or}
 use lib.Dec.{eqb}
 use borrow.Author.Tests.{lt-ltb, le-ltb, lt-leb, eq-eqb}
 use Rattle.model.specs.Limits.{LINKS, ROWS, NONE}
-use Rattle.model.specs.Logic.{if◌then◌else◌, ◌and◌}
+use Rattle.model.specs.Logic.{when◌then◌else◌, ◌and◌}
 use Rattle.model.specs.Sound.{Ordered}
 use Rattle.model.specs.Table.{Wiring}
 use Rattle.model.specs.State.{State, Devices, ACTIVE, powered, status_at, linked_at, with_status}
@@ -27,13 +27,13 @@ use Rattle.counts.proofs.Shifting.{not_of, follow_one, follow_off, under, under_
 
 -- ---- one link
 -- a count that is stored again leaves the column as it was
-stored_if : (b : Bool) (col : List ℕ) (q v : ℕ) → set col q (if b then v else get_or col q 0) ≡ (if b then set col q v else col)
-unfolding if◌then◌else◌
+stored_if : (b : Bool) (col : List ℕ) (q v : ℕ) → set col q (when b then v else get_or col q 0) ≡ (when b then set col q v else col)
+unfolding when◌then◌else◌
 stored_if true col q v = refl
 stored_if false col q v = set-get_or col q 0
 
 pub link_shifted : (s : State) (up : Bool) (i : ℕ) {q old v : ℕ} → q ≡ get_or s.wiring.supplier i 0 → old ≡ linked_at s q →
-    v ≡ (if eqb (get_or s.wiring.flags i 0 % 2) 1 then next_up_to 65535 up old else old) → with_linked s q v ≡ shift_link s up i
+    v ≡ (when eqb (get_or s.wiring.flags i 0 % 2) 1 then next_up_to 65535 up old else old) → with_linked s q v ≡ shift_link s up i
 unfolding shift_link link_step
 link_shifted s up i e f g =
     let q = get_or s.wiring.supplier i 0 in
@@ -48,11 +48,11 @@ links_none s up a = let e : a - a ≡ 0 = omega arith in rw e
 -- an index that leads past the links, and one that does not
 module _ (first : List ℕ) (s : State) (p : ℕ) (up : Bool) where
   pub links_past : LINKS < get_or first (p + 1) 0 → s ≡ shift_links_by first s p up
-  unfolding shift_links_by if◌then◌else◌
+  unfolding shift_links_by when◌then◌else◌
   links_past l = rw (lt-ltb LINKS (get_or first (p + 1) 0) l)
 
   pub links_within : get_or first (p + 1) 0 ≤ LINKS → shift_links s up (get_or first p 0) (get_or first (p + 1) 0 - get_or first p 0) ≡ shift_links_by first s p up
-  unfolding shift_links_by if◌then◌else◌
+  unfolding shift_links_by when◌then◌else◌
   links_within l = rw (le-ltb LINKS (get_or first (p + 1) 0) l)
 
 pub links_more : (s : State) (up : Bool) (a i : ℕ) → a ≤ i → shift_link (shift_links s up a (i - a)) up i ≡ shift_links s up a (i + 1 - a)
@@ -60,7 +60,7 @@ unfolding shift_links shift_link link_steps
 links_more s up a i l = let e : i + 1 - a ≡ suc (i - a) = omega arith in let f : a + (i - a) ≡ i = omega arith in rw (e, f)
 
 next_fits : (most : ℕ) (up : Bool) (x : ℕ) → next up x ≤ most → next_up_to most up x ≡ next up x
-unfolding next_up_to next if◌then◌else◌
+unfolding next_up_to next when◌then◌else◌
 next_fits most true x l = rw (lt-leb most x (omega arith))
 next_fits most false x l = refl
 
@@ -150,12 +150,12 @@ module _ (s : State) (p v : ℕ) (h : Ready s) (row : p < length s.devices.statu
 -- ---- in any state, with any index
 module _ (first : List ℕ) (s : State) (p v : ℕ) where
   pub any_same : beq (powered (status_at s p)) (powered v) ≡ true → with_status_cell s p v ≡ turned_by first s p v
-  unfolding turned_by if◌then◌else◌
+  unfolding turned_by when◌then◌else◌
   any_same e = rw e
 
   pub any_other : beq (powered (status_at s p)) (powered v) ≡ false
       → shift_links_by first (shift_child (with_status_cell s p v) p (powered v)) p (powered v) ≡ turned_by first s p v
-  unfolding turned_by if◌then◌else◌
+  unfolding turned_by when◌then◌else◌
   any_other e = rw e
 
   -- with the index of a ready state that brings the counts into line

@@ -2,7 +2,7 @@
 use Rattle.std.specs.Prelude.{◌≡◌, Bool, true, false, not, List, ℕ, zero, suc, ◌+◌, ◌-◌, ◌<◌, ◌%◌, get_or, set, eqb, ltb, leb}
 use Rattle.std.specs.Bool.{beq}
 use Rattle.model.specs.Limits.{LINKS, ROWS, NONE}
-use Rattle.model.specs.Logic.{if◌then◌else◌, ◌and◌, tally, column}
+use Rattle.model.specs.Logic.{when◌then◌else◌, ◌and◌, tally, column}
 use Rattle.model.specs.Table.{Wiring}
 use Rattle.model.specs.State.{State, status_at, children_at, powered, with_status}
 use Rattle.memory.specs.Layout.{state_in}
@@ -16,15 +16,15 @@ runtime_of consumer flags p k = eqb (get_or consumer k 0) p and eqb (get_or flag
 -- ---- what the code does
 -- a count one more or one less; it stays where that would pass the most
 unfoldable pub next_up_to : ℕ → Bool → ℕ → ℕ
-next_up_to most up x = if up then if leb most x then x else x + 1 else x - 1
+next_up_to most up x = when up then when leb most x then x else x + 1 else x - 1
 
 -- device p's parent, if it has one, counts p or counts it no more
 unfoldable pub shift_child : State → ℕ → Bool → State
-shift_child s p up = let q = get_or s.wiring.parent p 0 in if eqb q NONE then s else with_children s q (next_up_to 255 up (children_at s q))
+shift_child s p up = let q = get_or s.wiring.parent p 0 in when eqb q NONE then s else with_children s q (next_up_to 255 up (children_at s q))
 
 -- link i, and k links from a on
 unfoldable pub link_step : Wiring → Bool → ℕ → List ℕ → List ℕ
-link_step w up i col = let q = get_or w.supplier i 0 in if eqb (get_or w.flags i 0 % 2) 1 then set col q (next_up_to 65535 up (get_or col q 0)) else col
+link_step w up i col = let q = get_or w.supplier i 0 in when eqb (get_or w.flags i 0 % 2) 1 then set col q (next_up_to 65535 up (get_or col q 0)) else col
 
 unfoldable pub shift_link : State → Bool → ℕ → State
 shift_link s up i = with_linked_column s (link_step s.wiring up i s.devices.linked)
@@ -41,13 +41,13 @@ unfoldable pub shift_links_by : List ℕ → State → ℕ → Bool → State
 shift_links_by first s p up =
     let a = get_or first p 0 in
     let b = get_or first (p + 1) 0 in
-    if ltb LINKS b then s else shift_links s up a (b - a)
+    when ltb LINKS b then s else shift_links s up a (b - a)
 
 -- the status cell of p, and the counts by the index, whatever they were
 unfoldable pub turned_by : List ℕ → State → ℕ → ℕ → State
 turned_by first s p v =
     let t = with_status_cell s p v in
-    if beq (powered (status_at s p)) (powered v) then t else shift_links_by first (shift_child t p (powered v)) p (powered v)
+    when beq (powered (status_at s p)) (powered v) then t else shift_links_by first (shift_child t p (powered v)) p (powered v)
 
 -- the status of p becomes v: in a ready state with its index the counts are in line again; in any other the cells change as the code does
 pub record Turned (p v : ℕ) (first bytes₀ words₀ bytes words : List ℕ) : Type 0 where
@@ -57,7 +57,7 @@ pub record Turned (p v : ℕ) (first bytes₀ words₀ bytes words : List ℕ) :
 -- ---- what it amounts to
 -- a count one more, or one less
 unfoldable pub next : Bool → ℕ → ℕ
-next up x = if up then x + 1 else x - 1
+next up x = when up then x + 1 else x - 1
 
 -- the test t at i alone
 unfoldable pub only : ℕ → (ℕ → Bool) → ℕ → Bool

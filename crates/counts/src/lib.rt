@@ -2,7 +2,7 @@
 #![tactic(auto)]
 
 ghost use Rattle.std.specs.Prelude.{◌≡◌, List, ℕ};
-ghost use Rattle.model.specs.Logic.{if◌then◌else◌};
+ghost use Rattle.model.specs.Logic.{when◌then◌else◌};
 ghost use Rattle.model.specs.State.{powered};
 ghost use Rattle.memory.specs.Layout.{Becomes};
 ghost use Rattle.counts.specs.Shifts.{next_up_to, shift_child, shift_link, shift_links_by, Turned};
@@ -68,7 +68,7 @@ fn shift_child(bytes: &mut [u8; BYTES], p: u8, up: bool)
 
 // The next count of a runtime link's supplier; another link leaves the count as it was.
 fn if_runtime(runtime: bool, next: u32, old: u32) -> u32
-    ensures { result ≡ (if runtime then next else old) }
+    ensures { result ≡ (when runtime then next else old) }
 {
     if runtime { next } else { old }
 }

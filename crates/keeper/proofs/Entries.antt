@@ -9,7 +9,7 @@ use native.Mathlib.Decide.{ℕ_discrete, dec_lt}
 use lib.ListN.{length, set, replicate, length-set}
 use lib.Seq.{get_or-set_same, get_or-set_other, ext_get_or}
 use borrow.Author.Tests.{lt-ltb, le-ltb}
-use Rattle.model.specs.Logic.{if◌then◌else◌, column}
+use Rattle.model.specs.Logic.{when◌then◌else◌, column}
 use Rattle.model.specs.Table.{device_byte, link_byte, cell, padded, devices_in, links_in, wiring_in}
 use Rattle.model.specs.State.{at_rest, loaded, empty_state, with_ignore, with_depth}
 use Rattle.model.proofs.Counting.{at_column, length_column, column_zero}
@@ -19,17 +19,17 @@ use Rattle.keeper.specs.Entries.{stored, with_device_entries, with_link_entries}
 
 -- no row is filled yet
 padded_none : (f : ℕ → ℕ) (rows : ℕ) → padded f 0 rows ≡ replicate rows 0
-unfolding padded cell if◌then◌else◌
+unfolding padded cell when◌then◌else◌
 padded_none f rows = column_zero (cell f 0) rows (λ k. rw (le-ltb k 0 (omega arith)))
 
 -- row j after row k is filled
 cell_other : (f : ℕ → ℕ) (k j : ℕ) → (j ≡ k → ⊥) → cell f k j ≡ cell f (suc k) j
-unfolding cell if◌then◌else◌
+unfolding cell when◌then◌else◌
 cell_other f k j ne =
     elim (dec_lt j k) [ yes y ↦ rw (lt-ltb j k y, lt-ltb j (suc k) (omega arith)) | no g ↦ rw (le-ltb j k (omega arith), le-ltb j (suc k) (omega arith)) ]
 
 cell_same : (f : ℕ → ℕ) (k : ℕ) → f k ≡ cell f (suc k) k
-unfolding cell if◌then◌else◌
+unfolding cell when◌then◌else◌
 cell_same f k = rw (lt-ltb k (suc k) (omega arith))
 
 -- one row more; past the last row nothing changes

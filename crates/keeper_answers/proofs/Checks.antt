@@ -5,7 +5,7 @@ use Prim.Native.Nat.{ℕ, zero, suc, ◌≤◌}
 use native.Mathlib.Omega.{arith}
 use types.Run.{OneOf}
 use denote.Enum.Declared.{tag_of}
-use Rattle.model.specs.Logic.{if◌then◌else◌}
+use Rattle.model.specs.Logic.{when◌then◌else◌}
 use Rattle.model.specs.State.{SUSPENDING}
 use Rattle.keeper_answers.specs.declared.Check.{Check}
 use Rattle.keeper_answers.specs.declared.Check.TheVariants.{Unsound, Unknown, Passed}
@@ -20,7 +20,7 @@ last_told Passed h v = refl
 
 -- the four numbers are read as they are
 pub four : (x : ℕ) → x ≤ SUSPENDING → status_for x ≡ x
-unfolding if◌then◌else◌
+unfolding when◌then◌else◌
 four zero l = refl
 four (suc zero) l = refl
 four (suc (suc zero)) l = refl

@@ -1,6 +1,6 @@
 -- The answers to the public questions in the model's words. Assumes nothing.
 use Rattle.std.specs.Prelude.{◌≡◌, Bool, true, ℕ, ◌+◌, ◌*◌, eqb}
-use Rattle.model.specs.Logic.{if◌then◌else◌, bit}
+use Rattle.model.specs.Logic.{when◌then◌else◌, bit}
 use Rattle.model.specs.State.{State, SUSPENDED, RESUMING, ACTIVE, SUSPENDING}
 use Rattle.model.specs.Sound.{Sound}
 use Rattle.model.specs.Questions.{Told, told}
@@ -23,7 +23,7 @@ status_of Suspending = SUSPENDING
 
 -- the status that a number is read as: the last of the four for any number past it
 abbrev pub status_for : ℕ → ℕ
-status_for x = if eqb x SUSPENDED then SUSPENDED else if eqb x RESUMING then RESUMING else if eqb x ACTIVE then ACTIVE else SUSPENDING
+status_for x = when eqb x SUSPENDED then SUSPENDED else when eqb x RESUMING then RESUMING else when eqb x ACTIVE then ACTIVE else SUSPENDING
 
 -- a refusal's number alone, or the value
 abbrev pub told_by : Check → ℕ → Told

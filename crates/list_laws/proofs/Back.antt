@@ -9,7 +9,7 @@ use lib.ListN.{length, get_or, take, drop, length-drop}
 use lib.Seq.{get_or-drop, take_all}
 use borrow.Author.Tests.{eqb-true}
 use Rattle.model.specs.Limits.{NONE}
-use Rattle.model.specs.Logic.{if◌then◌else◌, ◌and◌, all}
+use Rattle.model.specs.Logic.{when◌then◌else◌, ◌and◌, all}
 use Rattle.model.specs.Table.{devices_in, links_in, device_byte, link_byte, parent_good, ends_good, device_good, link_fits, link_good, length_good}
 use Rattle.model.proofs.Basics.{few_devices_lem}
 use Rattle.model.proofs.Logic.{tests, all_iff}
@@ -29,14 +29,14 @@ use Rattle.list_laws.proofs.Bytes.{joined_same, joined_none, by_two, by_three}
 
 -- ---- the texts of numbers below 256 have no line feed: by computation over all of them
 numbers : all (λ x. plain (decimal x)) 256 ≡ true
-unfolding all plain ◌and◌ if◌then◌else◌ decimal digits_up_to
+unfolding all plain ◌and◌ when◌then◌else◌ decimal digits_up_to
 numbers = refl
 
 number_plain : (x : ℕ) → x < 256 → plain (decimal x) ≡ true
 number_plain x l = (all_iff (λ x. plain (decimal x)) 256).0 numbers x l
 
 parents : all (λ x. plain (parent_text x)) 256 ≡ true
-unfolding all plain ◌and◌ if◌then◌else◌ decimal digits_up_to parent_text ascii
+unfolding all plain ◌and◌ when◌then◌else◌ decimal digits_up_to parent_text ascii
 parents = refl
 
 parent_plain : (x : ℕ) → x < 256 → plain (parent_text x) ≡ true

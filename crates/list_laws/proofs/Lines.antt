@@ -5,7 +5,7 @@ use mathlib.Core.List.{List, [], ◌∷◌, ◌++◌, append_assoc}
 use Prim.Native.Nat.{ℕ, zero, suc, ◌<◌}
 use native.Mathlib.Omega.{arith}
 use lib.Dec.{eqb}
-use Rattle.model.specs.Logic.{if◌then◌else◌, ◌and◌}
+use Rattle.model.specs.Logic.{when◌then◌else◌, ◌and◌}
 use Rattle.model.proofs.Basics.{never, and_parts, and_of}
 use Rattle.list_lines.specs.declared.entries.Entry.{Entry}
 use Rattle.list_lines.specs.declared.entries.Entry.TheVariants.{Nothing}
@@ -27,13 +27,13 @@ plain_both (b ∷ v) w e f = let p = and_parts (not (eqb b 10)) (plain v) e in a
 
 -- ---- the first line
 cut : (c : Bool) (b : ℕ) (w rest : List ℕ) → not c ≡ true → (more : List (List ℕ)) → lines_of rest ≡ w ∷ more
-    → (if c then [] ∷ lines_of rest else in_front b (lines_of rest)) ≡ (b ∷ w) ∷ more
-unfolding if◌then◌else◌ in_front
+    → (when c then [] ∷ lines_of rest else in_front b (lines_of rest)) ≡ (b ∷ w) ∷ more
+unfolding when◌then◌else◌ in_front
 cut true b w rest e more f = never {x = false} e refl
 cut false b w rest e more f = rw f
 
 pub line_cut : (w rest : List ℕ) → plain w ≡ true → lines_of (w ++ 10 ∷ rest) ≡ w ∷ lines_of rest
-unfolding lines_of plain if◌then◌else◌
+unfolding lines_of plain when◌then◌else◌
 line_cut [] rest e = refl
 line_cut (b ∷ w) rest e = let p = and_parts (not (eqb b 10)) (plain w) e in cut (eqb b 10) b w (w ++ 10 ∷ rest) p.0 (lines_of rest) (line_cut w rest p.1)
 

@@ -11,7 +11,7 @@ use lib.Dec.{eqb, leb}
 use lib.ListN.{length, get_or, drop, drop_of_length-le}
 use lib.Seq.{drop-cons}
 use borrow.Author.Tests.{le-leb, lt-leb, leb-true, leb-false, eqb-true, eq-eqb, ne_eqb}
-use Rattle.model.specs.Logic.{if◌then◌else◌, ◌and◌}
+use Rattle.model.specs.Logic.{when◌then◌else◌, ◌and◌}
 use Rattle.model.proofs.Logic.{and_iff}
 use Rattle.replay_text.specs.Sizes.{is_digit, all_digits, value_after}
 use Rattle.replay_text.proofs.Reading.{grows}
@@ -43,8 +43,8 @@ pub same_is : {r : Bool} (s t : List ℕ) → (r ≡ true → s ≡ t) → (s �
 same_is {r} s t f g = agree r (same s t) (λ e. rw (f e) (same_self t)) (λ e. g (same_texts s t e))
 
 -- ---- a number that is capped
-low : (b : Bool) (x : ℕ) → (b ≡ true → x ≤ 255) → (if b then x else OVER) ≤ OVER
-unfolding if◌then◌else◌
+low : (b : Bool) (x : ℕ) → (b ≡ true → x ≤ 255) → (when b then x else OVER) ≤ OVER
+unfolding when◌then◌else◌
 low true x h = let g = h refl in omega arith
 low false x h = omega arith
 
@@ -53,11 +53,11 @@ unfolding capped
 capped_low x = low (leb x 255) x (leb-true x 255)
 
 small : (x : ℕ) → x ≤ 255 → capped x ≡ x
-unfolding capped if◌then◌else◌
+unfolding capped when◌then◌else◌
 small x h = rw (le-leb x 255 h)
 
 large : (x : ℕ) → 255 < x → capped x ≡ OVER
-unfolding capped if◌then◌else◌
+unfolding capped when◌then◌else◌
 large x h = rw (lt-leb x 255 h)
 
 -- capped once is capped for good, also before more digits: a number only grows by them
@@ -73,14 +73,14 @@ capped_before x t false e = let h = leb-false x 255 e in rw (large x h) (over OV
 
 -- ---- the number v with the digits of a text after it
 unfoldable pub number_after : ℕ → List ℕ → ℕ
-number_after v t = if all_digits t then capped (value_after v t) else UNREAD
+number_after v t = when all_digits t then capped (value_after v t) else UNREAD
 
 pub number_none : (w : List ℕ) → length w ≡ 0 → UNREAD ≡ number_in w
-unfolding number_in if◌then◌else◌
+unfolding number_in when◌then◌else◌
 number_none w e = rw (eq-eqb (length w) 0 e)
 
 pub number_all : (w : List ℕ) → (length w ≡ 0 → ⊥) → number_after 0 w ≡ number_in w
-unfolding number_in number_after if◌then◌else◌
+unfolding number_in number_after when◌then◌else◌
 number_all w n = rw (ne_eqb (length w) 0 n)
 
 pub digit_range : (b : ℕ) → is_digit b ≡ true → (48 ≤ b) × (b ≤ 57)
@@ -96,10 +96,10 @@ module _ (w : List ℕ) (i v : ℕ) (more : i < length w) where
       rw (add-one i, drop-cons w i 0 more, e, capped_before x (drop (suc i) w) (leb x 255) refl)
 
   pub number_stop : is_digit (get_or w i 0) ≡ false → number_after v (drop i w) ≡ UNREAD
-  unfolding number_after all_digits value_after ◌and◌ if◌then◌else◌
+  unfolding number_after all_digits value_after ◌and◌ when◌then◌else◌
   number_stop e = rw (drop-cons w i 0 more, e)
 
 -- all digits read
 pub number_end : (w : List ℕ) (i v : ℕ) → length w ≤ i → v ≤ OVER → number_after v (drop i w) ≡ v
-unfolding number_after all_digits value_after if◌then◌else◌
+unfolding number_after all_digits value_after when◌then◌else◌
 number_end w i v h l = rw (drop_of_length-le w h) (capped_twice v l)

@@ -1,7 +1,7 @@
 -- What becomes of the text of a list, and of the buffer for its table. Assumes nothing.
 use Rattle.std.specs.Prelude.{◌≡◌, true, false, List, ℕ, eqb, length}
 use Rattle.model.specs.Limits.{DEVICES, LINKS}
-use Rattle.model.specs.Logic.{if◌then◌else◌}
+use Rattle.model.specs.Logic.{when◌then◌else◌}
 use Rattle.model.specs.Table.{TableAnswer}
 use Rattle.model.specs.Writing.{table_of, Writing, write_of}
 use Rattle.list_text.specs.declared.Fault.{Fault}
@@ -22,19 +22,19 @@ writing_in text buffer = write_of (listed_devices text) (listed_links text) buff
 
 -- the line of the first device past the limit, else that of the first link past it; 0 where there is none
 unfoldable pub over_line : List ℕ → ℕ
-over_line text = if eqb (line_number false text DEVICES) 0 then line_number true text LINKS else line_number false text DEVICES
+over_line text = when eqb (line_number false text DEVICES) 0 then line_number true text LINKS else line_number false text DEVICES
 
 -- the line that a refusal stands in: 6 in that of its device, 7 in that of its link
 unfoldable pub refused_line : List ℕ → ℕ → ℕ → ℕ
 refused_line text number index =
-    if eqb number 6 then line_number false text index
-    else if eqb number 7 then line_number true text index
+    when eqb number 6 then line_number false text index
+    else when eqb number 7 then line_number true text index
     else over_line text
 
 -- an answer of the writer as it is told, with the size of the table
 unfoldable pub made_from : List ℕ → TableAnswer → ℕ → Made
 made_from text a size =
-    if eqb a.number 0 then Written size
+    when eqb a.number 0 then Written size
     else Refused (record { number = a.number; index = a.index; line = refused_line text a.number a.index })
 
 -- a text whose lines are all of a list's: the writer's answer, and its buffer

@@ -6,7 +6,7 @@ use Prim.Native.Nat.{ℕ, ◌<◌}
 use native.Mathlib.Omega.{arith}
 use lib.Dec.{leb}
 use lib.ListN.{get_or}
-use Rattle.model.specs.Logic.{if◌then◌else◌, ◌and◌, ◌or◌}
+use Rattle.model.specs.Logic.{when◌then◌else◌, ◌and◌, ◌or◌}
 use Rattle.replay_text.specs.Text.{ascii, decimal}
 use Rattle.list_words.specs.Words.{is_blank, stops, word_in}
 use Rattle.list_lines.specs.Numbers.{same, most}
@@ -19,8 +19,8 @@ use Rattle.list_print.proofs.Spaced.{uncut, solid, all_solid, spaced, words_back
 use Rattle.list_print.proofs.Numbers.{number_told_lem, parent_told}
 
 -- ---- numbers below 256 make an entry
-picked : (b : Bool) (x y : ℕ) → x < 256 → y < 256 → (if b then y else x) < 256
-unfolding if◌then◌else◌
+picked : (b : Bool) (x y : ℕ) → x < 256 → y < 256 → (when b then y else x) < 256
+unfolding when◌then◌else◌
 picked true x y h g = g
 picked false x y h g = h
 
@@ -57,7 +57,7 @@ module _ (parent flags : ℕ) (p : parent < 256) (f : flags < 256) where
   part_word k = rw part_spaced (words_back (ascii "part") part_list k part_solid)
 
   pub part_back : entry_in (part_words parent flags) ≡ Part parent flags
-  unfolding part_list entry_in part_in part_of ascii same ◌and◌ if◌then◌else◌
+  unfolding part_list entry_in part_in part_of ascii same ◌and◌ when◌then◌else◌
   part_back =
       rw (part_word 0, part_word 3, part_word 1, part_word 2, (parent_told parent p).back, (number_told_lem flags f).back)
       (good (most parent flags) (Part parent flags) (most_below parent flags p f))
@@ -79,7 +79,7 @@ module _ (consumer supplier flags : ℕ) (c : consumer < 256) (s : supplier < 25
   link_word k = rw link_spaced (words_back (ascii "link") link_list k link_solid)
 
   pub link_back : entry_in (link_words consumer supplier flags) ≡ Link consumer supplier flags
-  unfolding link_list entry_in link_in link_of ascii same ◌and◌ if◌then◌else◌
+  unfolding link_list entry_in link_in link_of ascii same ◌and◌ when◌then◌else◌
   link_back =
       let rest = most_below supplier flags s f in
       rw (link_word 0, link_word 4, link_word 1, link_word 2, link_word 3)

@@ -7,7 +7,7 @@ use native.Mathlib.Omega.{arith}
 use lib.Dec.{ltb}
 use lib.ListN.{length, get_or}
 use borrow.Author.Tests.{ltb-true, not-true}
-use Rattle.model.specs.Logic.{if◌then◌else◌, ◌and◌, ◌or◌}
+use Rattle.model.specs.Logic.{when◌then◌else◌, ◌and◌, ◌or◌}
 use Rattle.model.proofs.Logic.{and_iff}
 use Rattle.list_words.specs.Words.{is_blank, stops, before, from, word_at, word_in}
 use Rattle.list_words.specs.declared.Cut.{Cut}
@@ -23,12 +23,12 @@ unfolding uncut
 passes c b w e = let g = (and_iff (not (stops c b)) (uncut c w)).0 e in (not-true (stops c b) g.0, g.1)
 
 before_uncut : (c : Cut) (w t : List ℕ) → uncut c w ≡ true → before c (w ++ t) ≡ w ++ before c t
-unfolding before if◌then◌else◌
+unfolding before when◌then◌else◌
 before_uncut c [] t e = refl
 before_uncut c (b ∷ w) t e = let g = passes c b w e in rw g.0 (ap (λ (l : List ℕ). b ∷ l) (before_uncut c w t g.1))
 
 from_uncut : (c : Cut) (w t : List ℕ) → uncut c w ≡ true → from c (w ++ t) ≡ from c t
-unfolding from if◌then◌else◌
+unfolding from when◌then◌else◌
 from_uncut c [] t e = refl
 from_uncut c (b ∷ w) t e = let g = passes c b w e in rw g.0 (from_uncut c w t g.1)
 
@@ -48,7 +48,7 @@ solid_parts w e =
     let h = (and_iff (uncut Comment w) (uncut Blank w)).0 g.1 in record { some = ltb-true 0 (length w) g.0; code = h.0; whole = h.1 }
 
 starts : (w t : List ℕ) → Solid w → from Word (w ++ t) ≡ w ++ t
-unfolding from stops if◌then◌else◌
+unfolding from stops when◌then◌else◌
 starts [] t s = let h = s.some in absurd (omega arith)
 starts (b ∷ w) t s = rw (passes Blank b w s.whole).0
 
@@ -72,17 +72,17 @@ module _ (w : List ℕ) (ws : List (List ℕ)) (e : all_solid (w ∷ ws) ≡ tru
 
 -- a space is passed over
 pub space_first : (t : List ℕ) (k : ℕ) → word_at (32 ∷ t) k ≡ word_at t k
-unfolding word_at from stops is_blank ◌or◌ if◌then◌else◌
+unfolding word_at from stops is_blank ◌or◌ when◌then◌else◌
 space_first t zero = refl
 space_first t (suc k) = refl
 
 ends : (ws : List (List ℕ)) → before Blank (spaced ws) ≡ []
-unfolding spaced before stops is_blank ◌or◌ if◌then◌else◌
+unfolding spaced before stops is_blank ◌or◌ when◌then◌else◌
 ends [] = refl
 ends (w ∷ ws) = refl
 
 goes_on : (ws : List (List ℕ)) → from Blank (spaced ws) ≡ spaced ws
-unfolding spaced from stops is_blank ◌or◌ if◌then◌else◌
+unfolding spaced from stops is_blank ◌or◌ when◌then◌else◌
 goes_on [] = refl
 goes_on (w ∷ ws) = refl
 
@@ -104,7 +104,7 @@ words_at (w ∷ ws) (suc k) e =
     ∙ rw (starts w (spaced ws) s, from_uncut Blank w (spaced ws) s.whole, goes_on ws) (words_at ws k (others w ws e))
 
 no_comment : (ws : List (List ℕ)) → all_solid ws ≡ true → before Comment (spaced ws) ≡ spaced ws
-unfolding spaced before stops if◌then◌else◌
+unfolding spaced before stops when◌then◌else◌
 no_comment [] e = refl
 no_comment (w ∷ ws) e =
     ap (λ (l : List ℕ). 32 ∷ l) (before_uncut Comment w (spaced ws) (front w ws e).code ∙ ap (λ (l : List ℕ). w ++ l) (no_comment ws (others w ws e)))

@@ -1,12 +1,12 @@
 -- The lines of a list of parts and links. Assumes nothing.
 use Rattle.std.specs.Prelude.{List, ◌++◌, ℕ, eqb}
 use Rattle.model.specs.Limits.{NONE}
-use Rattle.model.specs.Logic.{if◌then◌else◌}
+use Rattle.model.specs.Logic.{when◌then◌else◌}
 use Rattle.replay_text.specs.Text.{ascii, decimal}
 
 -- the word of a parent
 unfoldable pub parent_text : ℕ → List ℕ
-parent_text parent = if eqb parent NONE then ascii "none" else decimal parent
+parent_text parent = when eqb parent NONE then ascii "none" else decimal parent
 
 -- part PARENT FLAGS, without and with its end
 unfoldable pub part_words : ℕ → ℕ → List ℕ

@@ -9,7 +9,7 @@ use lib.Dec.{eqb, leb, leb-suc-suc}
 use lib.ListN.{length, get_or, take, drop, length-drop, drop_of_length-le}
 use lib.Seq.{drop-cons, drop-drop}
 use borrow.Author.Tests.{eq-eqb, ne_eqb, le-leb, lt-leb, leb-true, leb-false}
-use Rattle.model.specs.Logic.{if◌then◌else◌}
+use Rattle.model.specs.Logic.{when◌then◌else◌}
 use Rattle.list_lines.specs.declared.entries.Entry.{Entry}
 use Rattle.list_lines.specs.Lines.{entry_in}
 use Rattle.list_lines.proofs.Empty.{empty_nothing}
@@ -19,17 +19,17 @@ use Rattle.list_text.specs.Places.{before, entries_from, Stopped, Read}
 -- ---- the law of lines
 -- the lines from a place on; past the end there is none
 abbrev lines_from : ℕ → List ℕ → List (List ℕ)
-lines_from i s = if leb i (length s) then lines_of (drop i s) else []
+lines_from i s = when leb i (length s) then lines_of (drop i s) else []
 
 step : (c : Bool) (b : ℕ) (t : List ℕ) → lines_of t ≡ take (before t) t ∷ lines_from (suc (before t)) t
-    → (if c then [] ∷ lines_of t else in_front b (lines_of t))
-    ≡ take (if c then 0 else suc (before t)) (b ∷ t) ∷ lines_from (suc (if c then 0 else suc (before t))) (b ∷ t)
-unfolding in_front if◌then◌else◌
+    → (when c then [] ∷ lines_of t else in_front b (lines_of t))
+    ≡ take (when c then 0 else suc (before t)) (b ∷ t) ∷ lines_from (suc (when c then 0 else suc (before t))) (b ∷ t)
+unfolding in_front when◌then◌else◌
 step true b t h = rw (le-leb 1 (suc (length t)) (omega arith))
 step false b t h = rw (h, leb-suc-suc (suc (before t)) (length t))
 
 pub first_line : (s : List ℕ) → lines_of s ≡ take (before s) s ∷ lines_from (suc (before s)) s
-unfolding lines_of before if◌then◌else◌
+unfolding lines_of before when◌then◌else◌
 first_line [] = refl
 first_line (b ∷ t) = step (eqb b 10) b t (first_line t)
 
@@ -44,11 +44,11 @@ from_place i j s h = rw (within i j (length (drop i s)) (length s) h (length-dro
 -- ---- the byte at a place
 module _ (s : List ℕ) (i : ℕ) where
   pub feed_here : i < length s → get_or s i 0 ≡ 10 → before (drop i s) ≡ 0
-  unfolding before if◌then◌else◌
+  unfolding before when◌then◌else◌
   feed_here more e = rw (drop-cons s i 0 more, eq-eqb (get_or s i 0) 10 e)
 
   pub feed_on : i < length s → (get_or s i 0 ≡ 10 → ⊥) → before (drop i s) ≡ suc (before (drop (i + 1) s))
-  unfolding before if◌then◌else◌
+  unfolding before when◌then◌else◌
   feed_on more e = rw (add-one i, drop-cons s i 0 more, ne_eqb (get_or s i 0) 10 e)
 
   pub feed_none : length s ≤ i → before (drop i s) ≡ 0
@@ -57,10 +57,10 @@ module _ (s : List ℕ) (i : ℕ) where
 
 -- ---- the line that starts at a place
 entries_lines : (i : ℕ) (s : List ℕ) → entries_from i s ≡ map entry_in (lines_from i s)
-unfolding entries_from entries_of if◌then◌else◌
+unfolding entries_from entries_of when◌then◌else◌
 entries_lines i s = test (leb i (length s))
   where
-    test : (c : Bool) → (if c then map entry_in (lines_of (drop i s)) else []) ≡ map entry_in (if c then lines_of (drop i s) else [])
+    test : (c : Bool) → (when c then map entry_in (lines_of (drop i s)) else []) ≡ map entry_in (when c then lines_of (drop i s) else [])
     test true = refl
     test false = refl
 
@@ -69,7 +69,7 @@ module _ {s : List ℕ} {start stop : ℕ} (inside : start ≤ length s) (stoppe
   part = let e = stopped.is in let n : before (drop start s) ≡ stop - start = omega arith in rw n
 
   lines_here : lines_from start s ≡ take (stop - start) (drop start s) ∷ lines_from (stop + 1) s
-  unfolding if◌then◌else◌
+  unfolding when◌then◌else◌
   lines_here =
       let e = stopped.is in
       let n : start + suc (before (drop start s)) ≡ stop + 1 = omega arith in
@@ -89,9 +89,9 @@ module _ {s : List ℕ} {start stop : ℕ} (inside : start ≤ length s) (stoppe
 
 -- ---- all lines, and none
 pub all_left : (s : List ℕ) → entries_from 0 s ≡ entries_of s
-unfolding entries_from if◌then◌else◌
+unfolding entries_from when◌then◌else◌
 all_left s = rw (le-leb 0 (length s) (omega arith))
 
 pub none_left : (i : ℕ) (s : List ℕ) → length s < i → entries_from i s ≡ []
-unfolding entries_from if◌then◌else◌
+unfolding entries_from when◌then◌else◌
 none_left i s h = rw (lt-leb i (length s) h)

@@ -1,7 +1,7 @@
 -- Texts cut into lines, and bytes in buffers, by computation. Assumes nothing.
 use mathlib.Core.Path.{◌≡◌, refl}
 use mathlib.Core.List.{[], ◌∷◌}
-use Rattle.model.specs.Logic.{if◌then◌else◌}
+use Rattle.model.specs.Logic.{when◌then◌else◌}
 use Rattle.list_text.specs.Texts.{in_front, lines_of, at_front}
 
 -- no text is one empty line
@@ -11,12 +11,12 @@ no_text = refl
 
 -- a line feed at the end of a text has an empty line after it
 feed_last : lines_of (97 ∷ 10 ∷ []) ≡ (97 ∷ []) ∷ [] ∷ []
-unfolding lines_of in_front if◌then◌else◌
+unfolding lines_of in_front when◌then◌else◌
 feed_last = refl
 
 -- an empty line between two others
 feed_twice : lines_of (97 ∷ 98 ∷ 10 ∷ 10 ∷ 99 ∷ []) ≡ (97 ∷ 98 ∷ []) ∷ [] ∷ (99 ∷ []) ∷ []
-unfolding lines_of in_front if◌then◌else◌
+unfolding lines_of in_front when◌then◌else◌
 feed_twice = refl
 
 -- more bytes than room, and more room than bytes

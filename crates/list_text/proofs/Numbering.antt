@@ -9,7 +9,7 @@ use native.Mathlib.Numerals.{add-one}
 use types.Run.{OneOf}
 use denote.Enum.Declared.{tag_of}
 use lib.ListN.{length, get_or}
-use Rattle.model.specs.Logic.{if◌then◌else◌}
+use Rattle.model.specs.Logic.{when◌then◌else◌}
 use Rattle.list_lines.specs.declared.entries.Entry.{Entry}
 use Rattle.list_lines.specs.declared.entries.Entry.TheVariants.{Nothing, Part, Link, Large, Wrong}
 use Rattle.list_lines.specs.contracts.entries.Entry.{the_type}
@@ -105,19 +105,19 @@ module _ {link : Bool} {text : List ℕ} {k ahead start number : ℕ} (l : Looki
   module _ {e : Entry} {next : ℕ} (r : Read text start e next) where
     -- no entry of the sort
     pub looking_on : is_of link e ≡ false → Looking link text k ahead next (number + 1)
-    unfolding numbers_from if◌then◌else◌
+    unfolding numbers_from when◌then◌else◌
     looking_on h = record { counted = counted_more l.counted r; rest = rw (add-one number) (rw (r.first, h) at l.rest) }
 
     -- an entry that is passed
     pub looking_past : is_of link e ≡ true → (ahead ≡ 0 → ⊥) → Looking link text k (ahead - 1) next (number + 1)
-    unfolding numbers_from if◌then◌else◌
+    unfolding numbers_from when◌then◌else◌
     looking_past h z =
         let n : ahead ≡ suc (ahead - 1) = omega arith in
         record { counted = counted_more l.counted r; rest = rw (add-one number) (rw (r.first, h, n) at l.rest) }
 
     -- the entry
     pub looking_here : is_of link e ≡ true → ahead ≡ 0 → number ≡ line_number link text k
-    unfolding numbers_from if◌then◌else◌
+    unfolding numbers_from when◌then◌else◌
     looking_here h z = rw (r.first, h, z) at l.rest
 
   pub looking_none : length text < start → 0 ≡ line_number link text k

@@ -1,7 +1,7 @@
 -- Lines by the places where they start and stop: the words of the contracts within. Assumes nothing.
 use Rattle.std.specs.Prelude.{◌≡◌, Bool, List, [], ◌∷◌, ℕ, suc, ◌+◌, ◌≤◌, ◌<◌, eqb, leb, length, drop}
 use Rattle.std.proofs.lemmas.List.Edits.{sets}
-use Rattle.model.specs.Logic.{if◌then◌else◌}
+use Rattle.model.specs.Logic.{when◌then◌else◌}
 use Rattle.list_lines.specs.declared.entries.Entry.{Entry}
 use Rattle.list_lines.specs.declared.entries.Entry.TheVariants.{Nothing}
 use Rattle.list_text.specs.Texts.{entries_of, bytes_of}
@@ -9,11 +9,11 @@ use Rattle.list_text.specs.Texts.{entries_of, bytes_of}
 -- how many bytes stand before the first line feed
 unfoldable pub before : List ℕ → ℕ
 before [] = 0
-before (b ∷ text) = if eqb b 10 then 0 else suc (before text)
+before (b ∷ text) = when eqb b 10 then 0 else suc (before text)
 
 -- the entries of the lines from a place on; past the end there is no line
 unfoldable pub entries_from : ℕ → List ℕ → List Entry
-entries_from i text = if leb i (length text) then entries_of (drop i text) else []
+entries_from i text = when leb i (length text) then entries_of (drop i text) else []
 
 -- the line that starts at a place stops at another: at its line feed, or at the end
 pub record Stopped (text : List ℕ) (start stop : ℕ) : Type 0 where

@@ -1,6 +1,6 @@
 -- The text of a list, in any number of lines: what its lines give together. Assumes nothing.
 use Rattle.std.specs.Prelude.{◌≡◌, Bool, true, false, List, [], ◌∷◌, ◌++◌, map, ℕ, suc, eqb, ltb, length, get_or, take, drop}
-use Rattle.model.specs.Logic.{if◌then◌else◌}
+use Rattle.model.specs.Logic.{when◌then◌else◌}
 use Rattle.list_lines.specs.declared.entries.Entry.{Entry}
 use Rattle.list_lines.specs.declared.entries.Entry.TheVariants.{Nothing, Part, Link, Large, Wrong}
 use Rattle.list_lines.specs.Lines.{entry_in}
@@ -16,7 +16,7 @@ in_front b (line ∷ lines) = (b ∷ line) ∷ lines
 -- the text cut at each line feed, which is 10: a text without one is one line
 unfoldable pub lines_of : List ℕ → List (List ℕ)
 lines_of [] = [] ∷ []
-lines_of (b ∷ text) = if eqb b 10 then [] ∷ lines_of text else in_front b (lines_of text)
+lines_of (b ∷ text) = when eqb b 10 then [] ∷ lines_of text else in_front b (lines_of text)
 
 -- what each line stands for
 unfoldable pub entries_of : List ℕ → List Entry
@@ -83,7 +83,7 @@ is_of link entry = ltb 0 (length (bytes_of link entry))
 -- the numbers of the lines with an entry of a sort
 unfoldable pub numbers_from : Bool → ℕ → List Entry → List ℕ
 numbers_from link n [] = []
-numbers_from link n (entry ∷ entries) = if is_of link entry then n ∷ numbers_from link (suc n) entries else numbers_from link (suc n) entries
+numbers_from link n (entry ∷ entries) = when is_of link entry then n ∷ numbers_from link (suc n) entries else numbers_from link (suc n) entries
 
 -- the line of entry k of a sort, from 0; 0 where there are not so many
 unfoldable pub line_number : Bool → List ℕ → ℕ → ℕ

@@ -7,7 +7,7 @@ use native.Mathlib.Omega.{arith}
 use native.Mathlib.Numerals.{add-one}
 use lib.ListN.{length, get_or, take, drop, length-drop, drop_of_length-le}
 use lib.Seq.{take-suc, drop-cons, append_snoc, take_all}
-use Rattle.model.specs.Logic.{if◌then◌else◌}
+use Rattle.model.specs.Logic.{when◌then◌else◌}
 use Rattle.list_words.specs.Words.{stops, before, from, Scanned, word_at}
 use Rattle.list_words.specs.declared.Cut.{Cut}
 use Rattle.list_words.specs.declared.Cut.TheVariants.{Blank, Word}
@@ -24,7 +24,7 @@ passed_none c t = record { inside = omega arith; front = refl; rest = refl }
 -- ---- at byte i
 module _ {c : Cut} {t : List ℕ} {i : ℕ} (p : Passed c t i) where
   pub passed_on : i < length t → stops c (get_or t i 0) ≡ false → Passed c t (i + 1)
-  unfolding before from if◌then◌else◌
+  unfolding before from when◌then◌else◌
   passed_on more e =
       let split = drop-cons t i 0 more in
       record {
@@ -34,7 +34,7 @@ module _ {c : Cut} {t : List ℕ} {i : ℕ} (p : Passed c t i) where
       }
 
   pub scanned_here : i < length t → stops c (get_or t i 0) ≡ true → Scanned c t i
-  unfolding before from if◌then◌else◌
+  unfolding before from when◌then◌else◌
   scanned_here more e =
       let split = drop-cons t i 0 more in
       record {

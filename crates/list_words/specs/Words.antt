@@ -1,6 +1,6 @@
 -- The words of a line. Assumes nothing.
 use Rattle.std.specs.Prelude.{◌≡◌, Bool, not, List, [], ◌∷◌, ℕ, zero, suc, ◌≤◌, eqb, length, take, drop}
-use Rattle.model.specs.Logic.{if◌then◌else◌, ◌or◌}
+use Rattle.model.specs.Logic.{when◌then◌else◌, ◌or◌}
 use Rattle.list_words.specs.declared.Cut.{Cut}
 use Rattle.list_words.specs.declared.Cut.TheVariants.{Comment, Blank, Word}
 
@@ -17,12 +17,12 @@ stops Word b = not (is_blank b)
 -- the bytes before the first at which the text is cut
 unfoldable pub before : Cut → List ℕ → List ℕ
 before c [] = []
-before c (b ∷ t) = if stops c b then [] else b ∷ before c t
+before c (b ∷ t) = when stops c b then [] else b ∷ before c t
 
 -- the bytes from that one on
 unfoldable pub from : Cut → List ℕ → List ℕ
 from c [] = []
-from c (b ∷ t) = if stops c b then b ∷ t else from c t
+from c (b ∷ t) = when stops c b then b ∷ t else from c t
 
 -- word k of a text, from 0; empty past the last word
 unfoldable pub word_at : List ℕ → ℕ → List ℕ

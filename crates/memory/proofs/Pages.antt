@@ -10,7 +10,7 @@ use lib.Seq.{take-set-le, take-set-lt, drop-set-lt, drop-set-add, take-add, take
 use lib.Dec.{eqb}
 use borrow.Author.Tests.{eqb-true, eqb-false}
 use Rattle.model.specs.Limits.{ROWS, LINKS}
-use Rattle.model.specs.Logic.{if◌then◌else◌}
+use Rattle.model.specs.Logic.{when◌then◌else◌}
 use Rattle.model.proofs.Basics.{by_if}
 use Rattle.memory.specs.Layout.{BYTES, WORDS, CARRIED, LINKCOUNT, LINKSAT, LINKPAGES, WORDTAIL, BYTETAIL, BYTENUMBERS, WORDNUMBERS}
 use Rattle.memory.specs.Layout.{area, page, device_col, byte_col, word_col, link_col, byte_tail, word_tail}
@@ -77,7 +77,7 @@ module _ (size k : ℕ) (cells : List ℕ) (p v : ℕ) (l : p < size) where
             area_before (size * j) size cells (size * k + p) v (omega arith)
       ]
 
-  pub page_store : (j : ℕ) → page size j (set cells (size * k + p) v) ≡ (if eqb j k then set (page size j cells) p v else page size j cells)
+  pub page_store : (j : ℕ) → page size j (set cells (size * k + p) v) ≡ (when eqb j k then set (page size j cells) p v else page size j cells)
   unfolding page
   page_store j =
       by_if (λ x. page size j (set cells (size * k + p) v) ≡ x) (eqb j k) _ _ (λ y. rw (eqb-true j k y) (area_same (size * k) size cells p v l)) (λ n. page_other j (eqb-false j k n))
@@ -90,7 +90,7 @@ inside size k p pages l f =
     omega arith
 
 module _ (pages k : ℕ) (cells : List ℕ) (p v : ℕ) (l : p < ROWS) (few : k < pages) where
-  pub device_store : (j : ℕ) → device_col pages j (set cells (ROWS * k + p) v) ≡ (if eqb j k then set (device_col pages j cells) p v else device_col pages j cells)
+  pub device_store : (j : ℕ) → device_col pages j (set cells (ROWS * k + p) v) ≡ (when eqb j k then set (device_col pages j cells) p v else device_col pages j cells)
   unfolding device_col
   device_store j = rw (take-set-lt (ROWS * pages) cells (ROWS * k + p) v (inside ROWS k p pages l few)) (page_store ROWS k (take (ROWS * pages) cells) p v l j)
 
@@ -103,7 +103,7 @@ module _ (k : ℕ) (cells : List ℕ) (i v : ℕ) (l : i < LINKS) (few : k < LIN
   abbrev cell : ℕ
   cell = LINKSAT + (LINKS * k + i)
 
-  pub link_store : (j : ℕ) → link_col j (set cells cell v) ≡ (if eqb j k then set (link_col j cells) i v else link_col j cells)
+  pub link_store : (j : ℕ) → link_col j (set cells cell v) ≡ (when eqb j k then set (link_col j cells) i v else link_col j cells)
   unfolding link_col
   link_store j =
       rw (area_same LINKSAT (LINKS * LINKPAGES) cells (LINKS * k + i) v (inside LINKS k i LINKPAGES l few)) (page_store LINKS k (area LINKSAT (LINKS * LINKPAGES) cells) i v l j)
@@ -166,7 +166,7 @@ module _ (cells : List ℕ) (i v : ℕ) where
   unfolding byte_tail BYTES
   tail_length h = area_length BYTETAIL BYTENUMBERS cells (omega arith)
 
-  pub number_store : i < BYTENUMBERS → BYTES ≤ length cells → (j : ℕ) → get_or (byte_tail (set cells (BYTETAIL + i) v)) j 0 ≡ (if eqb j i then v else get_or (byte_tail cells) j 0)
+  pub number_store : i < BYTENUMBERS → BYTES ≤ length cells → (j : ℕ) → get_or (byte_tail (set cells (BYTETAIL + i) v)) j 0 ≡ (when eqb j i then v else get_or (byte_tail cells) j 0)
   number_store l long j =
       let z = tail_length long in
       rw (tail_store l)

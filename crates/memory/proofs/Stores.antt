@@ -8,7 +8,7 @@ use lib.Seq.{set_out}
 use lib.Dec.{eqb}
 use borrow.Author.Tests.{eqb-true}
 use Rattle.model.specs.Limits.{ROWS, LINKS}
-use Rattle.model.specs.Logic.{if◌then◌else◌}
+use Rattle.model.specs.Logic.{when◌then◌else◌}
 use Rattle.model.specs.State.{with_depth, with_holds, with_error, with_ignore, with_callback, with_carry}
 use Rattle.model.proofs.Basics.{by_if}
 use Rattle.memory.specs.Layout.{PARENT, IGNORE, STATUS, DEPTH, CHILDREN, BYTEPAGES, CONSUMER, SUPPLIER, FLAGS, LINKPAGES, HOLDS, ERROR, LINKED, WORDPAGES}
@@ -55,48 +55,48 @@ module _ (page p v : ℕ) (cells : List ℕ) where
 -- ---- a column changed is a state changed
 module _ {p v : ℕ} {bytes₀ bytes : List ℕ} where
   pub put_parent : Stored PARENT p v bytes₀ bytes → BytesBecome (λ s. with_parent s p v) bytes₀ bytes
-  unfolding state_in if◌then◌else◌
+  unfolding state_in when◌then◌else◌
   put_parent h words = simp (h.columns, h.links, h.numbers)
 
   pub put_ignore : Stored IGNORE p v bytes₀ bytes → BytesBecome (λ s. with_ignore s p v) bytes₀ bytes
-  unfolding state_in if◌then◌else◌
+  unfolding state_in when◌then◌else◌
   put_ignore h words = simp (h.columns, h.links, h.numbers)
 
   pub put_status : Stored STATUS p v bytes₀ bytes → BytesBecome (λ s. with_status_cell s p v) bytes₀ bytes
-  unfolding state_in if◌then◌else◌
+  unfolding state_in when◌then◌else◌
   put_status h words = simp (h.columns, h.links, h.numbers)
 
   pub put_depth : Stored DEPTH p v bytes₀ bytes → BytesBecome (λ s. with_depth s p v) bytes₀ bytes
-  unfolding state_in if◌then◌else◌
+  unfolding state_in when◌then◌else◌
   put_depth h words = simp (h.columns, h.links, h.numbers)
 
   pub put_children : Stored CHILDREN p v bytes₀ bytes → BytesBecome (λ s. with_children s p v) bytes₀ bytes
-  unfolding state_in if◌then◌else◌
+  unfolding state_in when◌then◌else◌
   put_children h words = simp (h.columns, h.links, h.numbers)
 
   pub put_consumer : StoredLink CONSUMER p v bytes₀ bytes → BytesBecome (λ s. with_consumer s p v) bytes₀ bytes
-  unfolding state_in if◌then◌else◌
+  unfolding state_in when◌then◌else◌
   put_consumer h words = simp (h.columns, h.links, h.numbers)
 
   pub put_supplier : StoredLink SUPPLIER p v bytes₀ bytes → BytesBecome (λ s. with_supplier s p v) bytes₀ bytes
-  unfolding state_in if◌then◌else◌
+  unfolding state_in when◌then◌else◌
   put_supplier h words = simp (h.columns, h.links, h.numbers)
 
   pub put_flags : StoredLink FLAGS p v bytes₀ bytes → BytesBecome (λ s. with_flags s p v) bytes₀ bytes
-  unfolding state_in if◌then◌else◌
+  unfolding state_in when◌then◌else◌
   put_flags h words = simp (h.columns, h.links, h.numbers)
 
 module _ {p v : ℕ} {words₀ words : List ℕ} where
   pub put_holds : StoredWord HOLDS p v words₀ words → WordsBecome (λ s. with_holds s p v) words₀ words
-  unfolding state_in if◌then◌else◌
+  unfolding state_in when◌then◌else◌
   put_holds h bytes = simp (h.columns, h.numbers)
 
   pub put_error : StoredWord ERROR p v words₀ words → WordsBecome (λ s. with_error s p v) words₀ words
-  unfolding state_in if◌then◌else◌
+  unfolding state_in when◌then◌else◌
   put_error h bytes = simp (h.columns, h.numbers)
 
   pub put_linked : StoredWord LINKED p v words₀ words → WordsBecome (λ s. with_linked s p v) words₀ words
-  unfolding state_in if◌then◌else◌
+  unfolding state_in when◌then◌else◌
   put_linked h bytes = simp (h.columns, h.numbers)
 
 -- ---- a number stored is a state changed, where the array has its cells
@@ -105,7 +105,7 @@ unfolding state_in
 put_links bytes words m long = simp (word_number_store words m long, word_tail_cols words m)
 
 pub put_count : (bytes words : List ℕ) (n : ℕ) → BYTES ≤ length bytes → state_in (set bytes (BYTETAIL + COUNT) n) words ≡ with_count (state_in bytes words) n
-unfolding state_in if◌then◌else◌
+unfolding state_in when◌then◌else◌
 put_count bytes words n long =
     simp (number_store bytes COUNT n (omega arith) long, carried_stays bytes COUNT n (omega arith), tail_cols bytes COUNT n, tail_links bytes COUNT n)
 
@@ -121,7 +121,7 @@ module _ (bytes words : List ℕ) (kind asked target : ℕ) (long : BYTES ≤ le
   with_asked = set with_kind (BYTETAIL + ASKED) asked
 
   pub put_callback : state_in (set with_asked (BYTETAIL + TARGET) target) words ≡ with_callback (state_in bytes words) kind asked target
-  unfolding state_in if◌then◌else◌
+  unfolding state_in when◌then◌else◌
   put_callback =
       let l1 = still bytes (BYTETAIL + KIND) kind long in
       let l2 = still with_kind (BYTETAIL + ASKED) asked l1 in
@@ -162,7 +162,7 @@ module _ (bytes words carried : List ℕ) (used : ℕ) (long : BYTES ≤ length 
       ∙ sym (three_cells carried three))
 
   pub put_carried : state_in with_third words ≡ with_carry (state_in bytes words) carried used
-  unfolding state_in if◌then◌else◌
+  unfolding state_in when◌then◌else◌
   put_carried =
       let l1 = still bytes (BYTETAIL + USED) used long in
       let l2 = still with_used (BYTETAIL + (CARRIED + 0)) (get_or carried 0 0) l1 in

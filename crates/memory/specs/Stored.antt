@@ -1,12 +1,12 @@
 -- What a store into row p of a page does to the columns: that column has v there, and every other column and every number stays.
 -- Where the page has no such row, or there is no such page, nothing changes. Assumes nothing.
 use Rattle.std.specs.Prelude.{◌≡◌, List, ℕ, set, eqb}
-use Rattle.model.specs.Logic.{if◌then◌else◌}
+use Rattle.model.specs.Logic.{when◌then◌else◌}
 use Rattle.memory.specs.Layout.{byte_col, link_col, word_col, byte_tail, word_tail}
 
 -- column k after a store of v into row p of a page
 abbrev pub stored : (page p v k : ℕ) → List ℕ → List ℕ
-stored page p v k col = if eqb k page then set col p v else col
+stored page p v k col = when eqb k page then set col p v else col
 
 -- into a page of bytes of the devices
 pub record Stored (page p v : ℕ) (bytes₀ bytes : List ℕ) : Type 0 where

@@ -10,13 +10,13 @@ use native.Mathlib.Decide.{ℕ_discrete, dec_lt}
 use lib.ListN.{length, get_or, set, length-set}
 use lib.Seq.{get_or-set_same, get_or-set_other}
 use Rattle.model.specs.Limits.{DEVICES, ROWS, NONE}
-use Rattle.model.specs.Logic.{if◌then◌else◌, ◌and◌, ◌or◌, any, first}
+use Rattle.model.specs.Logic.{when◌then◌else◌, ◌and◌, ◌or◌, any, first}
 use Rattle.model.specs.Sound.{Column}
 
 -- ---- tests
 -- what holds of each branch where its test says so holds of the choice
-pub by_if : {A : Type 0} (P : A → Type 0) (c : Bool) (a b : A) → (c ≡ true → P a) → (c ≡ false → P b) → P (if c then a else b)
-unfolding if◌then◌else◌
+pub by_if : {A : Type 0} (P : A → Type 0) (c : Bool) (a b : A) → (c ≡ true → P a) → (c ≡ false → P b) → P (when c then a else b)
+unfolding when◌then◌else◌
 by_if P true a b f g = f refl
 by_if P false a b f g = g refl
 

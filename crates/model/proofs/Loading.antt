@@ -11,7 +11,7 @@ use native.Mathlib.Numerals.{add-one}
 use lib.ListN.{get_or, replicate, length-replicate, get_or-eq_default}
 use borrow.Author.Tests.{ltb-false, eq-eqb, ne_eqb, lt-ltb, le-ltb, not-false}
 use Rattle.model.specs.Limits.{DEVICES, LINKS, ROWS, NONE}
-use Rattle.model.specs.Logic.{if◌then◌else◌, ◌and◌, ◌or◌, first}
+use Rattle.model.specs.Logic.{when◌then◌else◌, ◌and◌, ◌or◌, first}
 use Rattle.model.specs.Table.{Wiring, TableAnswer, devices_in, links_in, device_byte, link_byte, limits_good, parent_good, ends_good, before, device_good, link_fits, ascends, link_good, bad_device, bad_link, entries_answer, table_answer, cell, padded, wiring_in}
 use Rattle.model.specs.State.{holds_at, is_child, is_live, child_count, link_count, children_of, linked_of, at_rest, loaded, empty_state, load_of}
 use Rattle.model.specs.Sound.{Column, Ordered, TableRules, none_open, Sound}
@@ -23,11 +23,11 @@ use Rattle.model.proofs.Running.{nothing_carried}
 
 -- ---- columns that are filled at loading
 pub at_padded : (f : ℕ → ℕ) (n rows p : ℕ) → n ≤ rows → p < n → get_or (padded f n rows) p 0 ≡ f p
-unfolding padded cell if◌then◌else◌
+unfolding padded cell when◌then◌else◌
 at_padded f n rows p h l = at_column _ rows p (omega arith) ∙ (rw (lt-ltb p n l))
 
 padded_column : (f : ℕ → ℕ) (n rows most : ℕ) → n ≤ rows → ((p : ℕ) → p < n → f p ≤ most) → Column rows n most (padded f n rows)
-unfolding padded cell if◌then◌else◌
+unfolding padded cell when◌then◌else◌
 padded_column f n rows most h low =
     let long = length_column (cell f n) rows in
     record {
@@ -157,11 +157,11 @@ taken_rules t =
 
 -- ---- the loader
 pub load_taken : (t : List ℕ) → (load_of t).answer.number ≡ 0 → (load_of t).state ≡ loaded (wiring_in t)
-unfolding load_of if◌then◌else◌
+unfolding load_of when◌then◌else◌
 load_taken t e = rw (eq-eqb _ _ e)
 
 pub load_refused : (t : List ℕ) → ((load_of t).answer.number ≡ 0 → ⊥) → (load_of t).state ≡ empty_state
-unfolding load_of if◌then◌else◌
+unfolding load_of when◌then◌else◌
 load_refused t ne = rw (ne_eqb _ _ ne)
 
 pub load_sound : (t : List ℕ) → (load_of t).answer.number ≡ 0 → Sound (load_of t).state

@@ -7,7 +7,7 @@ use native.Mathlib.Omega.{arith}
 use native.Mathlib.Nat.{eq-or-lt_of_le}
 use lib.Dec.{ltb, leb, eqb}
 use borrow.Author.Tests.{ltb-true, ltb-false, leb-true, leb-false, eqb-true, eqb-false, lt-ltb, le-ltb, le-leb, lt-leb, eq-eqb, ne_eqb}
-use Rattle.model.specs.Logic.{if◌then◌else◌, ◌and◌, ◌or◌, ◌implies◌, any, all}
+use Rattle.model.specs.Logic.{when◌then◌else◌, ◌and◌, ◌or◌, ◌implies◌, any, all}
 use Rattle.model.proofs.Basics.{never, and_parts, and_of, any_of, any_find}
 
 -- ---- a test is true exactly where its fact holds
@@ -38,8 +38,8 @@ unfolding ◌implies◌
 implies_iff true y = (λ e f. e, λ f. f refl)
 implies_iff false y = (λ e f. never f refl, λ f. refl)
 
-pub if_iff : (c x y : Bool) → ((if c then x else y) ≡ true) ↔ ((c ≡ true → x ≡ true) × (c ≡ false → y ≡ true))
-unfolding if◌then◌else◌
+pub if_iff : (c x y : Bool) → ((when c then x else y) ≡ true) ↔ ((c ≡ true → x ≡ true) × (c ≡ false → y ≡ true))
+unfolding when◌then◌else◌
 if_iff true x y = (λ e. (λ z. e, λ f. never refl f), λ h. h.0 refl)
 if_iff false x y = (λ e. (λ z. never z refl, λ f. e), λ h. h.1 refl)
 

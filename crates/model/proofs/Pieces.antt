@@ -9,7 +9,7 @@ use lib.Seq.{take_at, drop_at}
 use lib.Dec.{eqb}
 use borrow.Author.Tests.{ltb-false, eqb-true}
 use Rattle.model.specs.Limits.{ROWS}
-use Rattle.model.specs.Logic.{if◌then◌else◌}
+use Rattle.model.specs.Logic.{when◌then◌else◌}
 use Rattle.model.specs.State.{State, load_of}
 use Rattle.model.specs.Records.{reply_bytes}
 use Rattle.model.specs.Steps.{Exchange, run, replies_in}
@@ -46,7 +46,7 @@ JoinedFrom s ps = Joined s s.carry.used ps
 
 module _ (s : State) (h : Sound s) (p : Piece) where
   answer_plain : feed_answer s p ≡ piece_answer s.carry.used p
-  unfolding feed_answer if◌then◌else◌
+  unfolding feed_answer when◌then◌else◌
   answer_plain = rw (sound_tested h)
 
   -- the bytes of the replies stand at the front of the buffer
@@ -58,15 +58,15 @@ module _ (s : State) (h : Sound s) (p : Piece) where
         state = (run s p.bytes).state;
         buffer = over (replies_in (run s p.bytes).log) p.buffer;
       }
-  unfolding feed_of if◌then◌else◌
+  unfolding feed_of when◌then◌else◌
   piece_taken e = rw (answer_plain, e)
 
   pub piece_refused : eqb (piece_answer s.carry.used p) 0 ≡ false → feed_of s p ≡ record { number = piece_answer s.carry.used p; replies = 0; state = s; buffer = p.buffer }
-  unfolding feed_of if◌then◌else◌
+  unfolding feed_of when◌then◌else◌
   piece_refused e = rw (answer_plain, e)
 
   joined_taken : (ps : List Piece) → eqb (piece_answer s.carry.used p) 0 ≡ true → JoinedFrom (run s p.bytes).state ps → JoinedFrom s (p ∷ ps)
-  unfolding feed_all handed_back joined refusals taken_bytes carried_after if◌then◌else◌
+  unfolding feed_all handed_back joined refusals taken_bytes carried_after when◌then◌else◌
   joined_taken ps e j =
       let w = rest_waits s p.bytes h in
       let n = eqb-true (piece_answer s.carry.used p) 0 e in
@@ -85,7 +85,7 @@ module _ (s : State) (h : Sound s) (p : Piece) where
       front = take_at _ _ _ (log_replies (run s p.bytes).log)
 
   joined_refused : (ps : List Piece) → eqb (piece_answer s.carry.used p) 0 ≡ false → JoinedFrom s ps → JoinedFrom s (p ∷ ps)
-  unfolding feed_all handed_back joined refusals taken_bytes carried_after if◌then◌else◌
+  unfolding feed_all handed_back joined refusals taken_bytes carried_after when◌then◌else◌
   joined_refused ps e j =
       record {
         refused = rw (piece_refused e, e) (ap (λ (l : List ℕ). piece_answer s.carry.used p ∷ l) j.refused);

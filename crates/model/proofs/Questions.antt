@@ -9,7 +9,7 @@ use lib.ListN.{get_or}
 use lib.Dec.{eqb}
 use borrow.Author.Tests.{eqb-false, eq-eqb, ne_eqb}
 use Rattle.model.specs.Limits.{NONE}
-use Rattle.model.specs.Logic.{if◌then◌else◌}
+use Rattle.model.specs.Logic.{when◌then◌else◌}
 use Rattle.model.specs.State.{State}
 use Rattle.model.specs.Questions.{climb, parents_above}
 use Rattle.model.specs.Sound.{Ordered}
@@ -18,8 +18,8 @@ use Rattle.model.specs.Sound.{Ordered}
 abbrev pub Rising : List ℕ → ℕ → Type 0
 Rising parent p = (q : ℕ) → q ≤ p → (get_or parent q 0 ≡ NONE → ⊥) → get_or parent q 0 < q
 
-if_same : (c : Bool) (x y : ℕ) → (c ≡ false → x ≡ y) → (if c then 0 else x) ≡ (if c then 0 else y)
-unfolding if◌then◌else◌
+if_same : (c : Bool) (x y : ℕ) → (c ≡ false → x ≡ y) → (when c then 0 else x) ≡ (when c then 0 else y)
+unfolding when◌then◌else◌
 if_same true x y f = refl
 if_same false x y f = f refl
 
@@ -29,7 +29,7 @@ module _ (parent : List ℕ) where
   no_parent p r h = elim (ℕ_discrete (get_or parent p 0) NONE) [ yes e ↦ e | no ne ↦ let z = r p (omega arith) ne in absurd (omega arith) ]
 
   pub climb_none : (a p : ℕ) → Rising parent p → p ≤ get_or parent p 0 → climb parent a p ≡ 0
-  unfolding climb if◌then◌else◌
+  unfolding climb when◌then◌else◌
   climb_none zero p r h = refl
   climb_none (suc a) p r h = rw (eq-eqb _ _ (no_parent p r h))
 
@@ -43,7 +43,7 @@ module _ (parent : List ℕ) where
       (λ e. let z = r p (omega arith) (eqb-false _ _ e) in ap suc (climb_enough a b (get_or parent p 0) (λ q l. r q (omega arith)) (omega arith) (omega arith)))
 
   pub climb_one : (p : ℕ) → Rising parent p → get_or parent p 0 < p → p ≤ NONE → climb parent p p ≡ suc (climb parent (get_or parent p 0) (get_or parent p 0))
-  unfolding climb if◌then◌else◌
+  unfolding climb when◌then◌else◌
   climb_one zero r l h = absurd (omega arith)
   climb_one (suc p) r l h =
       let up = get_or parent (suc p) 0 in
@@ -52,8 +52,8 @@ module _ (parent : List ℕ) where
 -- no parent: none above; else one more than above the parent
 pub above_step :
     (s : State) → Ordered s.wiring → (p : ℕ) → p < s.wiring.n
-    → parents_above s p ≡ (if eqb (get_or s.wiring.parent p 0) NONE then 0 else suc (parents_above s (get_or s.wiring.parent p 0)))
-unfolding parents_above climb if◌then◌else◌
+    → parents_above s p ≡ (when eqb (get_or s.wiring.parent p 0) NONE then 0 else suc (parents_above s (get_or s.wiring.parent p 0)))
+unfolding parents_above climb when◌then◌else◌
 above_step s r zero h = rw (eq-eqb _ _ (no_parent s.wiring.parent 0 (λ q l. r.parents q (omega arith)) (omega arith)))
 above_step s r (suc p) h =
     let q = get_or s.wiring.parent (suc p) 0 in

@@ -4,7 +4,7 @@ use mathlib.Core.Bool.{true}
 use Prim.Native.Nat.{ℕ, ◌<◌}
 use native.Mathlib.Omega.{arith}
 use borrow.Author.Tests.{eq-eqb, ne_eqb}
-use Rattle.model.specs.Logic.{if◌then◌else◌}
+use Rattle.model.specs.Logic.{when◌then◌else◌}
 use Rattle.model.specs.State.{State}
 use Rattle.model.specs.Records.{Rec, RESULT, allowed}
 use Rattle.model.specs.Requests.{get_wake, idle_unused, put_idle}
@@ -47,7 +47,7 @@ module _ {s : State} (h : Sound s) (o : s.callback.kind ≡ 0) (p : ℕ) (l : p 
 
 -- ---- kind 13
 result_good : {s : State} → Sound s → (v : ℕ) → allowed RESULT v ≡ true → (s.callback.kind ≡ 0 → ⊥) → Good (result s s.callback.asked v)
-unfolding result if◌then◌else◌
+unfolding result when◌then◌else◌
 result_good {s} h v a ne = go h.callback
   where
     go : CallbackRules s → Good (result s s.callback.asked v)

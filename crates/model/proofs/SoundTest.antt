@@ -10,7 +10,7 @@ use lib.ListN.{length, get_or, get_or-eq_default}
 use lib.Seq.{ext_get_or}
 use borrow.Author.Tests.{eqb-true, eq-eqb, ne_eqb}
 use Rattle.model.specs.Limits.{LINKS, ROWS, MAXHOLDS, MAXDEPTH, MAXERROR}
-use Rattle.model.specs.Logic.{if◌then◌else◌}
+use Rattle.model.specs.Logic.{when◌then◌else◌}
 use Rattle.model.specs.Table.{Wiring, parent_good, ends_good}
 use Rattle.model.specs.State.{State, Devices, Carry, SUSPENDED, SUSPENDING, status_at, error_at, depth_at}
 use Rattle.model.specs.WakeSet.{Needs, child, link, InWake, Lowest, lowest}
@@ -247,7 +247,7 @@ module _ (s : State) (k : KeptIn s) where
       (λ e f. never f refl))))
 
   callback_test_lem : CallbackRules s → callback_test s ≡ true
-  unfolding callback_test none_test suspend_open_test resume_open_test idle_open_test if◌then◌else◌
+  unfolding callback_test none_test suspend_open_test resume_open_test idle_open_test when◌then◌else◌
   callback_test_lem (none_open o) = rw (eq-eqb s.callback.kind 0 o.kind) (simp tests (o.asked, (o.target, all_steady_iff.1 o.steady)))
   callback_test_lem (suspend_open o) =
       let z = o.kind in

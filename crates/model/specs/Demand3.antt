@@ -1,7 +1,7 @@
 -- "Demand 3 in exact words": one claim about a whole list of pieces, at the level of definitions. Assumes nothing.
 use Rattle.std.specs.Prelude.{◌≡◌, Bool, not, List, [], ◌∷◌, ◌++◌, map, ℕ, ◌<◌, ◌+◌, ◌*◌, ◌%◌, length, take, eqb}
 use Rattle.model.specs.Limits.{EOVERFLOW, EINPROGRESS, minus}
-use Rattle.model.specs.Logic.{if◌then◌else◌, ◌and◌, ◌or◌, bit}
+use Rattle.model.specs.Logic.{when◌then◌else◌, ◌and◌, ◌or◌, bit}
 use Rattle.model.specs.State.{State, holds_at, usage, link_count, load_of}
 use Rattle.model.specs.Records.{Reply}
 use Rattle.model.specs.Steps.{Exchange, run, replies_in}
@@ -27,7 +27,7 @@ joined (f ∷ fs) = take (4 * f.replies) f.buffer ++ joined fs
 -- ---- the same list by lengths alone
 -- the bytes carried after a piece, c before it
 unfoldable pub carried_after : ℕ → Piece → ℕ
-carried_after c p = if eqb (piece_answer c p) 0 then (c + length p.bytes) % 4 else c
+carried_after c p = when eqb (piece_answer c p) 0 then (c + length p.bytes) % 4 else c
 
 -- the pieces refused are those over 4,096 bytes or without room
 unfoldable pub refusals : ℕ → List Piece → List ℕ
@@ -37,7 +37,7 @@ refusals c (p ∷ ps) = piece_answer c p ∷ refusals (carried_after c p) ps
 -- the joined bytes of the pieces taken
 unfoldable pub taken_bytes : ℕ → List Piece → List ℕ
 taken_bytes c [] = []
-taken_bytes c (p ∷ ps) = (if eqb (piece_answer c p) 0 then p.bytes else []) ++ taken_bytes (carried_after c p) ps
+taken_bytes c (p ∷ ps) = (when eqb (piece_answer c p) 0 then p.bytes else []) ++ taken_bytes (carried_after c p) ps
 
 -- ---- "counted"
 abbrev pub is_get : ℕ → Bool

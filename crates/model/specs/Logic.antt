@@ -4,10 +4,10 @@ use Rattle.std.specs.Prelude.{Bool, true, false, List, [], ◌∷◌, ℕ, zero,
 infixr 20 ◌and◌
 infixr 15 ◌or◌
 infixr 10 ◌implies◌
-infixr 5 if◌then◌else◌
-unfoldable pub if◌then◌else◌ : {A : Type 0} → Bool → A → A → A
-if◌then◌else◌ true a b = a
-if◌then◌else◌ false a b = b
+infixr 5 when◌then◌else◌
+unfoldable pub when◌then◌else◌ : {A : Type 0} → Bool → A → A → A
+when◌then◌else◌ true a b = a
+when◌then◌else◌ false a b = b
 
 unfoldable pub ◌and◌ : Bool → Bool → Bool
 ◌and◌ true b = b
@@ -38,7 +38,7 @@ all f (suc n) = f n and all f n
 -- the least number below n that passes f; n where none does
 unfoldable pub first : (ℕ → Bool) → ℕ → ℕ
 first f zero = zero
-first f (suc n) = if f 0 then 0 else suc (first (λ k. f (suc k)) n)
+first f (suc n) = when f 0 then 0 else suc (first (λ k. f (suc k)) n)
 
 -- how many numbers below n pass f
 unfoldable pub count : (ℕ → Bool) → ℕ → ℕ

@@ -1,6 +1,6 @@
 -- "Each request hands back a whole new bench": what one request on a bench gives, sound or not. Assumes nothing.
 use Rattle.std.specs.Prelude.{not, ℕ}
-use Rattle.model.specs.Logic.{if◌then◌else◌}
+use Rattle.model.specs.Logic.{when◌then◌else◌}
 use Rattle.model.specs.State.{State}
 use Rattle.model.specs.Records.{Rec, Reply}
 use Rattle.model.specs.Steps.{record_step}
@@ -15,5 +15,5 @@ pub record Requested : Type 0 where
 -- 21 for a bench that is not sound, which comes back as it was; then what the record is answered and leads to
 unfoldable pub requested : State → Rec → Requested
 requested s r =
-    if not (sound_test s) then record { number = 21; reply = record { kind = 0; device = 0; code = 0 }; state = s }
+    when not (sound_test s) then record { number = 21; reply = record { kind = 0; device = 0; code = 0 }; state = s }
     else record { number = 0; reply = (record_step s r).reply; state = (record_step s r).state }

@@ -1,7 +1,7 @@
 -- "Public questions on a bench", with refusals 21 and 24. Assumes nothing.
 use Rattle.std.specs.Prelude.{Bool, not, List, ℕ, zero, suc, get_or, leb, eqb}
 use Rattle.model.specs.Limits.{NONE}
-use Rattle.model.specs.Logic.{if◌then◌else◌, ◌or◌, bit}
+use Rattle.model.specs.Logic.{when◌then◌else◌, ◌or◌, bit}
 use Rattle.model.specs.State.{State, status_at, holds_at, children_at, usage}
 use Rattle.model.specs.WakeSet.{in_wake}
 use Rattle.model.specs.SoundTest.{sound_test}
@@ -14,8 +14,8 @@ pub record Told : Type 0 where
 -- 21 for a bench that is not sound, then 24 for an unknown device, then what is read
 unfoldable pub told : State → Bool → ℕ → Told
 told s known value =
-    if not (sound_test s) then record { number = 21; value = 0 }
-    else if not known then record { number = 24; value = 0 }
+    when not (sound_test s) then record { number = 21; value = 0 }
+    else when not known then record { number = 24; value = 0 }
     else record { number = 0; value = value }
 
 abbrev about : (State → ℕ → ℕ) → State → ℕ → Told
@@ -40,7 +40,7 @@ tell_wake s p q = told s (not (leb s.wiring.n p or leb s.wiring.n q)) (bit (in_w
 -- how many parents stand above p, at most k: a parent's number is lower than its child's, so k = p is enough
 unfoldable pub climb : List ℕ → ℕ → ℕ → ℕ
 climb parent zero p = 0
-climb parent (suc k) p = if eqb (get_or parent p 0) NONE then 0 else suc (climb parent k (get_or parent p 0))
+climb parent (suc k) p = when eqb (get_or parent p 0) NONE then 0 else suc (climb parent k (get_or parent p 0))
 
 unfoldable pub parents_above : State → ℕ → ℕ
 parents_above s p = climb s.wiring.parent p p

@@ -2,7 +2,7 @@
 use Rattle.std.specs.Prelude.{Bool, true, false, not, List, [], ◌∷◌, ◌++◌, ℕ, ◌+◌, ◌-◌, ◌*◌, ◌/◌, ◌%◌, get_or, replicate, ltb, leb, eqb, ℤ, pos, neg_ℤ}
 use Rattle.std.specs.Int.Signed.{le_z}
 use Rattle.model.specs.Limits.{MAXERROR}
-use Rattle.model.specs.Logic.{if◌then◌else◌, ◌and◌, ◌or◌}
+use Rattle.model.specs.Logic.{when◌then◌else◌, ◌and◌, ◌or◌}
 use Rattle.model.specs.State.{State}
 
 -- a record; its value is the 16-bit number as it stands, 65,536 - k for -k
@@ -84,7 +84,7 @@ kind_of kind = get_or kinds kind (plain zero_only)
 
 -- a 16-bit number read as signed
 abbrev pub signed : ℕ → ℤ
-signed v = if leb 32768 v and ltb v 65536 then neg_ℤ (pos (65536 - v)) else pos v
+signed v = when leb 32768 v and ltb v 65536 then neg_ℤ (pos (65536 - v)) else pos v
 
 -- the value lies in its kind's bounds
 unfoldable pub allowed : ℕ → ℕ → Bool
@@ -94,7 +94,7 @@ allowed kind v = le_z (kind_of kind).bounds.least (signed v) and le_z (signed v)
 -- 11: no such kind; 12: no such device, or one other than 0 for a kind about the whole bench; 13: a value beyond its kind's bounds
 unfoldable pub fault : ℕ → Rec → ℕ
 fault n r =
-    if not (leb 1 r.kind and leb r.kind LAST) then 11
-    else if leb n r.device or ((kind_of r.kind).whole and not (eqb r.device 0)) then 12
-    else if not (allowed r.kind r.value) then 13
+    when not (leb 1 r.kind and leb r.kind LAST) then 11
+    else when leb n r.device or ((kind_of r.kind).whole and not (eqb r.device 0)) then 12
+    else when not (allowed r.kind r.value) then 13
     else 0

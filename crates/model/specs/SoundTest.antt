@@ -2,14 +2,14 @@
 -- Assumes nothing.
 use Rattle.std.specs.Prelude.{Bool, false, not, List, ℕ, ◌+◌, ◌-◌, ◌%◌, get_or, ltb, leb, eqb}
 use Rattle.model.specs.Limits.{DEVICES, LINKS, ROWS, NONE, MAXHOLDS, MAXDEPTH, MAXERROR}
-use Rattle.model.specs.Logic.{if◌then◌else◌, ◌and◌, ◌or◌, ◌implies◌, all}
+use Rattle.model.specs.Logic.{when◌then◌else◌, ◌and◌, ◌or◌, ◌implies◌, all}
 use Rattle.model.specs.Table.{Wiring, parent_good, ends_good, before}
 use Rattle.model.specs.State.{State, Devices, Carry, SUSPENDED, RESUMING, ACTIVE, SUSPENDING, powered, status_at, children_of, linked_of}
 use Rattle.model.specs.WakeSet.{in_wake, lowest}
 use Rattle.model.specs.Requests.{suspend_test, barred}
 
 unfoldable pub column_test : ℕ → ℕ → ℕ → List ℕ → Bool
-column_test rows n most col = all (λ p. if ltb p n then leb (get_or col p 0) most else eqb (get_or col p 0) 0) rows
+column_test rows n most col = all (λ p. when ltb p n then leb (get_or col p 0) most else eqb (get_or col p 0) 0) rows
 
 unfoldable pub table_test : Wiring → Bool
 table_test w =
@@ -87,10 +87,10 @@ idle_open_test s p = ltb p s.wiring.n and eqb s.callback.target p and eqb (statu
 
 unfoldable pub callback_test : State → Bool
 callback_test s =
-    if eqb s.callback.kind 0 then none_test s
-    else if eqb s.callback.kind 1 then suspend_open_test s s.callback.asked
-    else if eqb s.callback.kind 2 then resume_open_test s s.callback.asked s.callback.target
-    else if eqb s.callback.kind 3 then idle_open_test s s.callback.asked
+    when eqb s.callback.kind 0 then none_test s
+    else when eqb s.callback.kind 1 then suspend_open_test s s.callback.asked
+    else when eqb s.callback.kind 2 then resume_open_test s s.callback.asked s.callback.target
+    else when eqb s.callback.kind 3 then idle_open_test s s.callback.asked
     else false
 
 unfoldable pub sound_test : State → Bool

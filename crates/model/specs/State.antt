@@ -2,7 +2,7 @@
 -- Assumes nothing.
 use Rattle.std.specs.Prelude.{Bool, not, List, ℕ, ◌+◌, ◌%◌, get_or, set, replicate, ltb, leb, eqb}
 use Rattle.model.specs.Limits.{LINKS, ROWS, NONE}
-use Rattle.model.specs.Logic.{if◌then◌else◌, ◌and◌, tally, column}
+use Rattle.model.specs.Logic.{when◌then◌else◌, ◌and◌, tally, column}
 use Rattle.model.specs.Table.{Wiring, TableAnswer, table_answer, padded, wiring_in}
 
 -- ---- status
@@ -184,4 +184,4 @@ pub record Loaded : Type 0 where
   pub state : State
 
 unfoldable pub load_of : List ℕ → Loaded
-load_of t = record { answer = table_answer t; state = if eqb (table_answer t).number 0 then loaded (wiring_in t) else empty_state }
+load_of t = record { answer = table_answer t; state = when eqb (table_answer t).number 0 then loaded (wiring_in t) else empty_state }

@@ -1,7 +1,7 @@
 -- "The part table", and numbers 1 to 7 of "What the keeper turns away". Assumes nothing.
 use Rattle.std.specs.Prelude.{Bool, not, List, ℕ, ◌+◌, ◌*◌, ◌-◌, length, get_or, ltb, leb, eqb}
 use Rattle.model.specs.Limits.{DEVICES, LINKS, ROWS, NONE}
-use Rattle.model.specs.Logic.{if◌then◌else◌, ◌and◌, ◌or◌, first, column}
+use Rattle.model.specs.Logic.{when◌then◌else◌, ◌and◌, ◌or◌, first, column}
 
 -- what a table says: how the devices ("parts") hang together
 pub record Wiring : Type 0 where
@@ -102,24 +102,24 @@ answered number index = record { number = number; index = index }
 -- 6 and 7, the first faulty entry
 unfoldable pub entries_answer : List ℕ → TableAnswer
 entries_answer t =
-    if ltb (bad_device t) (devices_in t) then answered 6 (bad_device t)
-    else if ltb (bad_link t) (links_in t) then answered 7 (bad_link t)
+    when ltb (bad_device t) (devices_in t) then answered 6 (bad_device t)
+    else when ltb (bad_link t) (links_in t) then answered 7 (bad_link t)
     else answered 0 0
 
 -- "a table answers the first fault in reading order"
 unfoldable pub table_answer : List ℕ → TableAnswer
 table_answer t =
-    if ltb (length t) 7 then answered 1 0
-    else if not (mark_good t) then answered 2 0
-    else if not (version_good t) then answered 3 0
-    else if not (limits_good t) then answered 4 0
-    else if not (length_good t) then answered 5 0
+    when ltb (length t) 7 then answered 1 0
+    else when not (mark_good t) then answered 2 0
+    else when not (version_good t) then answered 3 0
+    else when not (limits_good t) then answered 4 0
+    else when not (length_good t) then answered 5 0
     else entries_answer t
 
 -- ---- the entries as columns
 -- row k: what f gives below n, and "unused rows are zero"
 unfoldable pub cell : (ℕ → ℕ) → ℕ → ℕ → ℕ
-cell f n k = if ltb k n then f k else 0
+cell f n k = when ltb k n then f k else 0
 
 unfoldable pub padded : (ℕ → ℕ) → ℕ → ℕ → List ℕ
 padded f n rows = column (cell f n) rows

@@ -8,7 +8,7 @@ use lib.ListN.{length, take}
 use lib.Dec.{eqb}
 use borrow.Author.Tests.{lt-ltb, le-ltb}
 use Rattle.model.specs.Limits.{MAXPIECE}
-use Rattle.model.specs.Logic.{if◌then◌else◌}
+use Rattle.model.specs.Logic.{when◌then◌else◌}
 use Rattle.model.specs.State.{State, with_carry}
 use Rattle.model.specs.Steps.{Run, none_wait, run, replies_in}
 use Rattle.model.specs.Sound.{Sound}
@@ -39,21 +39,21 @@ given piece buffer = record { bytes = piece; buffer = buffer }
 
 module _ (s : State) (piece buffer : List ℕ) where
   pub unsound_number : sound_test s ≡ false → feed_answer s (given piece buffer) ≡ 21
-  unfolding feed_answer if◌then◌else◌
+  unfolding feed_answer when◌then◌else◌
   unsound_number e = rw e
 
   module _ (t : sound_test s ≡ true) where
     pub long_number : MAXPIECE < length piece → feed_answer s (given piece buffer) ≡ 22
-    unfolding feed_answer piece_answer if◌then◌else◌
+    unfolding feed_answer piece_answer when◌then◌else◌
     long_number l = rw (t, lt-ltb MAXPIECE (length piece) l)
 
     module _ {used : ℕ} (u : used ≡ s.carry.used) (short : length piece ≤ MAXPIECE) where
       pub room_number : length buffer < 4 * ((used + length piece) / 4) → feed_answer s (given piece buffer) ≡ 23
-      unfolding feed_answer piece_answer if◌then◌else◌
+      unfolding feed_answer piece_answer when◌then◌else◌
       room_number r = rw (t, le-ltb MAXPIECE (length piece) short, ← u, lt-ltb (length buffer) (4 * ((used + length piece) / 4)) r)
 
       pub taken_number : 4 * ((used + length piece) / 4) ≤ length buffer → feed_answer s (given piece buffer) ≡ 0
-      unfolding feed_answer piece_answer if◌then◌else◌
+      unfolding feed_answer piece_answer when◌then◌else◌
       taken_number r = rw (t, le-ltb MAXPIECE (length piece) short, ← u, le-ltb (length buffer) (4 * ((used + length piece) / 4)) r)
 
 -- ---- all of a piece
@@ -61,14 +61,14 @@ module _ (s : State) (p : Piece) where
   -- a refused piece leaves the bench and the buffer
   pub fed_refused : (number : ℕ) → eqb number 0 ≡ false → feed_answer s p ≡ number
       → feed_of s p ≡ record { number = number; replies = 0; state = s; buffer = p.buffer }
-  unfolding feed_of if◌then◌else◌
+  unfolding feed_of when◌then◌else◌
   fed_refused number ne e = rw (e, ne)
 
   pub fed_taken : feed_answer s p ≡ 0 → Sound s → {used : ℕ} → used ≡ s.carry.used → {t : State} {after : List ℕ}
       → t ≡ (run s p.bytes).state
       → after ≡ over (replies_in (run s p.bytes).log) p.buffer
       → feed_of s p ≡ record { number = 0; replies = (used + length p.bytes) / 4; state = t; buffer = after }
-  unfolding feed_of if◌then◌else◌
+  unfolding feed_of when◌then◌else◌
   fed_taken e h {used} u f g =
       let many = replies_many s p.bytes h ∙ ap (λ (n : ℕ). (n + length p.bytes) / 4) (sym u) in
       rw e (λ i. record { number = 0; replies = many i; state = sym f i; buffer = sym g i })

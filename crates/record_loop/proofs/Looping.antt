@@ -6,7 +6,7 @@ use native.Mathlib.Omega.{arith}
 use native.Mathlib.Nat.{add-zero}
 use lib.ListN.{length, get_or, take, drop, length-drop}
 use lib.Seq.{get_or-drop}
-use Rattle.model.specs.Logic.{if◌then◌else◌}
+use Rattle.model.specs.Logic.{when◌then◌else◌}
 use Rattle.model.specs.State.{State, with_carry}
 use Rattle.model.specs.Records.{Rec, Reply, Done, record_of, reply_bytes}
 use Rattle.model.specs.Steps.{Run, none_wait, record_step, byte_step, run, replies_in}
@@ -23,7 +23,7 @@ use Rattle.record_loop.proofs.Joining.{next_four, over_length, over_more, over_n
 -- ---- the carried bytes, fed again where none wait
 held : (s : State) (bytes : List ℕ) (used : ℕ) → Carried (record { bytes = bytes; used = used })
     → run (none_wait s) (take used bytes) ≡ record { state = with_carry s bytes used; log = [] }
-unfolding run byte_step if◌then◌else◌
+unfolding run byte_step when◌then◌else◌
 held s (x ∷ y ∷ z ∷ []) zero f = rw (f.unused 0 (omega arith), f.unused 1 (omega arith), f.unused 2 (omega arith))
 held s (x ∷ y ∷ z ∷ []) (suc zero) f = rw (f.unused 1 (omega arith), f.unused 2 (omega arith))
 held s (x ∷ y ∷ z ∷ []) (suc (suc zero)) f = rw (f.unused 2 (omega arith))
@@ -49,11 +49,11 @@ carried_first s piece f =
 four_bytes : (s : State) (a b c d : ℕ) (w : List ℕ) → let f = record_step (none_wait s) (record_of a b c d) in
     run (none_wait s) (a ∷ b ∷ c ∷ d ∷ w)
     ≡ record { state = (run f.state w).state; log = record { asked = record_of a b c d; reply = f.reply } ∷ (run f.state w).log }
-unfolding run byte_step if◌then◌else◌
+unfolding run byte_step when◌then◌else◌
 four_bytes s a b c d w = refl
 
 few_bytes : (s : State) (w : List ℕ) → length w < 4 → run (none_wait s) w ≡ record { state = with_carry s (rest_in w 0) (length w); log = [] }
-unfolding run byte_step if◌then◌else◌
+unfolding run byte_step when◌then◌else◌
 few_bytes s [] h = refl
 few_bytes s (a ∷ []) h = refl
 few_bytes s (a ∷ b ∷ []) h = refl

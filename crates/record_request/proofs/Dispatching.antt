@@ -7,7 +7,7 @@ use native.Mathlib.Omega.{arith}
 use native.Mathlib.Decide.{ℕ_discrete, dec_lt}
 use lib.Dec.{ltb}
 use borrow.Author.Tests.{ltb-true, lt-ltb}
-use Rattle.model.specs.Logic.{if◌then◌else◌, ◌and◌, ◌or◌}
+use Rattle.model.specs.Logic.{when◌then◌else◌, ◌and◌, ◌or◌}
 use Rattle.model.specs.State.{State}
 use Rattle.model.specs.Records.{allowed}
 use Rattle.model.specs.Requests.{put_idle, idle, suspend, ignore_children}
@@ -22,19 +22,19 @@ use Rattle.record_request.proofs.Staying.{idle_stays, put_idle_stays}
 -- ---- the model's lines of these kinds
 module _ (s : State) (p v : ℕ) {kind : ℕ} where
   line_6 : kind ≡ 6 → request s kind p v ≡ put_idle s p
-  unfolding request if◌then◌else◌
+  unfolding request when◌then◌else◌
   line_6 e = rw e
 
   line_7 : kind ≡ 7 → request s kind p v ≡ idle s p
-  unfolding request if◌then◌else◌
+  unfolding request when◌then◌else◌
   line_7 e = rw e
 
   line_8 : kind ≡ 8 → request s kind p v ≡ suspend s p
-  unfolding request if◌then◌else◌
+  unfolding request when◌then◌else◌
   line_8 e = rw e
 
   pub line_12 : kind ≡ 12 → request s kind p v ≡ ignore_children s p v
-  unfolding request if◌then◌else◌
+  unfolding request when◌then◌else◌
   line_12 e = rw e
 
 -- ---- the path

@@ -1,5 +1,5 @@
 -- A whole record by what the code learnt, and the open callback from its number. Assumes nothing.
-use Rattle.model.specs.Logic.{if◌then◌else◌}
+use Rattle.model.specs.Logic.{when◌then◌else◌}
 use mathlib.Core.Path.{◌≡◌, refl, sym, ◌∙◌, ap}
 use mathlib.Core.Bool.{true, false}
 use Prim.Native.Nat.{ℕ, zero, suc, ◌<◌, ◌≤◌}
@@ -24,7 +24,7 @@ module _ (s : State) (r : Rec) {n f : ℕ} (many : n ≡ s.wiring.n) (told : f �
   fault_is = sym (told ∙ ap (λ x. fault x r) many)
 
   pub record_refused : 0 < f → record_step s r ≡ refused s r.device f
-  unfolding record_step if◌then◌else◌
+  unfolding record_step when◌then◌else◌
   record_refused l = rw (fault_is, lt-ltb 0 f l)
 
   module _ (fine : f ≤ 0) where
@@ -32,7 +32,7 @@ module _ (s : State) (r : Rec) {n f : ℕ} (many : n ≡ s.wiring.n) (told : f �
     well_formed = formed s.wiring.n r (rw fault_is fine)
 
     pub record_result : r.kind ≡ RESULT → record_step s r ≡ result_step s r.device r.value
-    unfolding record_step if◌then◌else◌
+    unfolding record_step when◌then◌else◌
     record_result e = rw (fault_is, le-ltb 0 f fine, eq-eqb r.kind RESULT e)
 
     module _ (ne : r.kind ≡ RESULT → ⊥) where
@@ -40,11 +40,11 @@ module _ (s : State) (r : Rec) {n f : ℕ} (many : n ≡ s.wiring.n) (told : f �
       is_request = let g = well_formed in record { low = g.low; high = g.high; other = ne; fits = g.fits }
 
       pub record_busy : busy s r.kind ≡ true → record_step s r ≡ finished s r.device (minus EINPROGRESS)
-      unfolding record_step if◌then◌else◌
+      unfolding record_step when◌then◌else◌
       record_busy o = rw (fault_is, le-ltb 0 f fine, ne_eqb r.kind RESULT ne, o)
 
       pub record_asks : busy s r.kind ≡ false → record_step s r ≡ request s r.kind r.device r.value
-      unfolding record_step if◌then◌else◌
+      unfolding record_step when◌then◌else◌
       record_asks o = rw (fault_is, le-ltb 0 f fine, ne_eqb r.kind RESULT ne, o)
 
 -- ---- the open callback from its number
@@ -70,7 +70,7 @@ record Reads (k a g : ℕ) (o : Callback) : Type 0 where
   target : (number_of o ≡ 0 → ⊥) → target_of o ≡ g
 
 reads : (k a g : ℕ) → Reads k a g (opened_as k a g)
-unfolding opened_as if◌then◌else◌
+unfolding opened_as when◌then◌else◌
 reads zero a g = record { zero_test = refl; one_test = refl; two_test = refl; asked = λ ne. absurd (ne refl); target = λ ne. absurd (ne refl) }
 reads (suc zero) a g = record { zero_test = refl; one_test = refl; two_test = refl; asked = λ ne. refl; target = λ ne. refl }
 reads (suc (suc zero)) a g = record { zero_test = refl; one_test = refl; two_test = refl; asked = λ ne. refl; target = λ ne. refl }
@@ -85,7 +85,7 @@ module _ (s : State) (p v : ℕ) where
   read e = rw e (reads s.callback.kind s.callback.asked s.callback.target)
 
   pub result_none : None ≡ open_in s → result_step s p v ≡ refused s p 14
-  unfolding result_step if◌then◌else◌
+  unfolding result_step when◌then◌else◌
   result_none e = rw (read e).zero_test
 
   some : (k : CallbackKind) (q t : ℕ) → number_of (Open k q t) ≡ 0 → ⊥
@@ -95,7 +95,7 @@ module _ (s : State) (p v : ℕ) where
 
   module _ (k : CallbackKind) (q t : ℕ) (e : Open k q t ≡ open_in s) where
     pub result_other : (p ≡ q → ⊥) → result_step s p v ≡ refused s p 15
-    unfolding result_step if◌then◌else◌
+    unfolding result_step when◌then◌else◌
     result_other ne =
         rw ((read e).zero_test, ne_eqb (number_of (Open k q t)) 0 (some k q t), ne_eqb p s.callback.asked (λ z. ne (z ∙ sym ((read e).asked (some k q t)))))
 
@@ -106,13 +106,13 @@ module _ (s : State) (p v : ℕ) where
     same z = eq-eqb p s.callback.asked (z ∙ (read e).asked (some k q t))
 
   pub result_suspend : (q t : ℕ) → Open Suspend q t ≡ open_in s → p ≡ q → result_step s p v ≡ suspend_result s q v
-  unfolding result_step result if◌then◌else◌
+  unfolding result_step result when◌then◌else◌
   result_suspend q t e z = rw (← z, (read e).zero_test, same Suspend q t e z, (read e).one_test)
 
   pub result_resume : (q t : ℕ) → Open Resume q t ≡ open_in s → p ≡ q → result_step s p v ≡ resume_result s q t v
-  unfolding result_step result if◌then◌else◌
+  unfolding result_step result when◌then◌else◌
   result_resume q t e z = rw (← z, target_is Resume q t e, (read e).zero_test, same Resume q t e z, (read e).one_test, (read e).two_test)
 
   pub result_idle : (q t : ℕ) → Open Idle q t ≡ open_in s → p ≡ q → result_step s p v ≡ idle_result s q v
-  unfolding result_step result if◌then◌else◌
+  unfolding result_step result when◌then◌else◌
   result_idle q t e z = rw (← z, (read e).zero_test, same Idle q t e z, (read e).one_test, (read e).two_test)

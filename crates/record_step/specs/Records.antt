@@ -1,6 +1,6 @@
 -- The open callback as the code has it, and what one record promises. Assumes nothing.
 use Rattle.std.specs.Prelude.{◌≡◌, List, ℕ, eqb}
-use Rattle.model.specs.Logic.{if◌then◌else◌}
+use Rattle.model.specs.Logic.{when◌then◌else◌}
 use Rattle.model.specs.State.{State}
 use Rattle.model.specs.Records.{Rec}
 use Rattle.model.specs.Steps.{record_step}
@@ -16,9 +16,9 @@ use Rattle.record_step.specs.declared.Callback.TheVariants.{None, Open}
 -- ---- the open callback by its kind's number: every number but 0 to 2 is read as idle, as the model does
 unfoldable pub opened_as : ℕ → ℕ → ℕ → Callback
 opened_as kind asked target =
-    if eqb kind 0 then None
-    else if eqb kind 1 then Open Suspend asked target
-    else if eqb kind 2 then Open Resume asked target
+    when eqb kind 0 then None
+    else when eqb kind 1 then Open Suspend asked target
+    else when eqb kind 2 then Open Resume asked target
     else Open Idle asked target
 
 -- the open callback of a state

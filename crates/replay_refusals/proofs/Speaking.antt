@@ -4,7 +4,7 @@ use mathlib.Core.Bool.{Bool, true, false}
 use Prim.Native.Nat.{◌≤◌}
 use native.Mathlib.Omega.{arith}
 use lib.ListN.{length}
-use Rattle.model.specs.Logic.{if◌then◌else◌}
+use Rattle.model.specs.Logic.{when◌then◌else◌}
 use Rattle.replay_text.specs.declared.line.Line.{Line}
 use Rattle.replay_text.specs.Text.{ascii}
 use Rattle.replay_text.specs.Line.{line_of}
@@ -12,7 +12,7 @@ use Rattle.replay_text.proofs.Adding.{Holds}
 use Rattle.replay_refusals.specs.Lines.{speaker_text}
 
 speaker_length : (resumes : Bool) → length (speaker_text resumes) ≤ 8
-unfolding ascii speaker_text if◌then◌else◌
+unfolding ascii speaker_text when◌then◌else◌
 speaker_length true = omega arith
 speaker_length false = omega arith
 

@@ -1,11 +1,11 @@
 -- The lines that are said of a refusal. Assumes nothing.
 use Rattle.std.specs.Prelude.{Bool, List, ◌++◌, ℕ}
-use Rattle.model.specs.Logic.{if◌then◌else◌}
+use Rattle.model.specs.Logic.{when◌then◌else◌}
 use Rattle.replay_text.specs.Text.{ascii, decimal}
 
 -- the program that speaks
 unfoldable pub speaker_text : Bool → List ℕ
-speaker_text resumes = if resumes then ascii "resume: " else ascii "replay: "
+speaker_text resumes = when resumes then ascii "resume: " else ascii "replay: "
 
 -- PROGRAM: piece refused NUMBER
 unfoldable pub stopped_text : Bool → ℕ → List ℕ

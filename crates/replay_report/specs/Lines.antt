@@ -1,6 +1,6 @@
 -- The lines that are printed. Assumes nothing.
 use Rattle.std.specs.Prelude.{List, ◌++◌, ℕ, eqb}
-use Rattle.model.specs.Logic.{if◌then◌else◌}
+use Rattle.model.specs.Logic.{when◌then◌else◌}
 use Rattle.model.specs.Table.{TableAnswer}
 use Rattle.replay_text.specs.Text.{ascii, decimal}
 
@@ -19,8 +19,8 @@ carried_text b = ascii "carried " ++ decimal b ++ ascii "\n"
 -- callback none, callback suspend P, callback resume P for T, callback idle P; of a sound bench no other
 unfoldable pub callback_text : ℕ → ℕ → ℕ → List ℕ
 callback_text kind asked target =
-    if eqb kind 0 then ascii "callback none\n"
-    else if eqb kind 1 then ascii "callback suspend " ++ decimal asked ++ ascii "\n"
-    else if eqb kind 2 then ascii "callback resume " ++ decimal asked ++ ascii " for " ++ decimal target ++ ascii "\n"
-    else if eqb kind 3 then ascii "callback idle " ++ decimal asked ++ ascii "\n"
+    when eqb kind 0 then ascii "callback none\n"
+    else when eqb kind 1 then ascii "callback suspend " ++ decimal asked ++ ascii "\n"
+    else when eqb kind 2 then ascii "callback resume " ++ decimal asked ++ ascii " for " ++ decimal target ++ ascii "\n"
+    else when eqb kind 3 then ascii "callback idle " ++ decimal asked ++ ascii "\n"
     else ascii "callback unknown\n"

@@ -6,7 +6,7 @@ use native.Mathlib.Omega.{arith}
 use lib.ListN.{length, drop, replicate, length-append, length-replicate, replicate-append-replicate}
 use lib.Seq.{take-append_seam, drop-append-add, drop_at}
 use borrow.Author.Tests.{le-leb}
-use Rattle.model.specs.Logic.{if◌then◌else◌}
+use Rattle.model.specs.Logic.{when◌then◌else◌}
 use Rattle.replay_text.specs.Text.{decimal}
 use Rattle.replay_text.specs.Line.{line_of, added}
 use Rattle.replay_text.specs.declared.line.Line.{Line}
@@ -23,7 +23,7 @@ rest m n h =
     rw (← s) (drop_at (zeros m) (zeros (n - m)) m (length-replicate m 0))
 
 pub add : (t w : List ℕ) → length t + length w ≤ 256 → added (line_of t) w ≡ line_of (t ++ w)
-unfolding added line_of if◌then◌else◌
+unfolding added line_of when◌then◌else◌
 add t w h =
     let n : 256 - length t - length w ≡ 256 - length (t ++ w) = simp length-append (omega arith) in
     let free = 256 - length t in

@@ -9,12 +9,12 @@ use lib.Dec.{ltb}
 use lib.ListN.{length, length-append}
 use borrow.Author.Tests.{lt-ltb, le-ltb}
 use Rattle.io.specs.Digits.{hex_digit_ascii, last_digits, IsDigitCount}
-use Rattle.model.specs.Logic.{if◌then◌else◌}
+use Rattle.model.specs.Logic.{when◌then◌else◌}
 use Rattle.replay_text.specs.Text.{single, digits_up_to, decimal}
 
 -- of two short words the one that is picked is short
-pub short_if : (k : ℕ) (b : Bool) (x y : List ℕ) → length x ≤ k → length y ≤ k → length (if b then x else y) ≤ k
-unfolding if◌then◌else◌
+pub short_if : (k : ℕ) (b : Bool) (x y : List ℕ) → length x ≤ k → length y ≤ k → length (when b then x else y) ≤ k
+unfolding when◌then◌else◌
 short_if k true x y h g = h
 short_if k false x y h g = g
 
@@ -35,7 +35,7 @@ glyph_digit : (d : ℕ) → d < 10 → hex_digit_ascii d ≡ 48 + d
 glyph_digit d h = simp (lt-ltb d 10 h)
 
 up_to : (k f n : ℕ) → suc k ≤ f → n < 10 ^ suc k → (0 < k → 10 ^ k ≤ n) → last_digits 10 (suc k) n ≡ digits_up_to f n
-unfolding digits_up_to if◌then◌else◌
+unfolding digits_up_to when◌then◌else◌
 up_to zero zero n h below above = elim h [ ]
 up_to zero (suc f) n h below above =
     let small : n < 10 = omega arith in

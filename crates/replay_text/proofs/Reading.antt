@@ -10,14 +10,14 @@ use lib.ListN.{length, get_or, drop, drop_of_length-le}
 use lib.Seq.{drop-cons}
 use borrow.Author.Tests.{le-leb, lt-leb, leb-true}
 use Rattle.model.proofs.Logic.{and_iff}
-use Rattle.model.specs.Logic.{if◌then◌else◌, ◌and◌}
+use Rattle.model.specs.Logic.{when◌then◌else◌, ◌and◌}
 use Rattle.replay_text.specs.Sizes.{is_digit, digit_of, all_digits, value_after, size_after}
 use Rattle.replay_text.specs.declared.size.Size.{Size}
 use Rattle.replay_text.specs.declared.size.Size.TheVariants.{Wrong, Bytes}
 
 -- ---- what the value of a digit says of the byte
-digit_if : (b : Bool) (x : ℕ) → (if b then x else 10) ≤ 9 → (b ≡ true) × ((if b then x else 10) ≡ x)
-unfolding if◌then◌else◌
+digit_if : (b : Bool) (x : ℕ) → (when b then x else 10) ≤ 9 → (b ≡ true) × ((when b then x else 10) ≡ x)
+unfolding when◌then◌else◌
 digit_if true x h = (refl, refl)
 digit_if false x h = absurd (omega arith)
 
@@ -25,8 +25,8 @@ pub digit_is : (b : ℕ) {d : ℕ} → d ≡ digit_of b → d ≤ 9 → (is_digi
 unfolding digit_of
 digit_is b {d} e h = let g = digit_if (is_digit b) (b - 48) (rw e at h) in (g.0, e ∙ g.1)
 
-not_if : (b : Bool) (x : ℕ) → (b ≡ true → x ≤ 9) → 9 < (if b then x else 10) → b ≡ false
-unfolding if◌then◌else◌
+not_if : (b : Bool) (x : ℕ) → (b ≡ true → x ≤ 9) → 9 < (when b then x else 10) → b ≡ false
+unfolding when◌then◌else◌
 not_if true x s h = let g = s refl in absurd (omega arith)
 not_if false x s h = refl
 
@@ -44,7 +44,7 @@ unfolding size_after all_digits value_after ◌and◌
 size_on v b t e = rw e
 
 pub size_stop : (v b : ℕ) (t : List ℕ) → is_digit b ≡ false → size_after v (b ∷ t) ≡ Wrong
-unfolding size_after all_digits value_after ◌and◌ if◌then◌else◌
+unfolding size_after all_digits value_after ◌and◌ when◌then◌else◌
 size_stop v b t e = rw e
 
 -- ---- a value only grows
@@ -53,8 +53,8 @@ unfolding value_after
 grows v [] = omega arith
 grows v (b ∷ t) = let i = grows (10 * v + (b - 48)) t in omega arith
 
-either_wrong : (a b : Bool) (s : Size) → (if a and b and false then s else Wrong) ≡ Wrong
-unfolding ◌and◌ if◌then◌else◌
+either_wrong : (a b : Bool) (s : Size) → (when a and b and false then s else Wrong) ≡ Wrong
+unfolding ◌and◌ when◌then◌else◌
 either_wrong true true s = refl
 either_wrong true false s = refl
 either_wrong false b s = refl
@@ -67,11 +67,11 @@ size_large v t h =
 
 -- ---- the end
 pub size_none : size_after 0 [] ≡ Wrong
-unfolding size_after all_digits value_after ◌and◌ if◌then◌else◌
+unfolding size_after all_digits value_after ◌and◌ when◌then◌else◌
 size_none = refl
 
 pub size_end : (v : ℕ) → 1 ≤ v → v ≤ 4096 → size_after v [] ≡ Bytes v
-unfolding size_after all_digits value_after ◌and◌ if◌then◌else◌
+unfolding size_after all_digits value_after ◌and◌ when◌then◌else◌
 size_end v l h = rw (le-leb 1 v l, le-leb v 4096 h)
 
 -- ---- a turn of the loop at byte i, whose digit is d

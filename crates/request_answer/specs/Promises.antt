@@ -1,7 +1,7 @@
 -- What a request promises of the memory before and after it. Assumes nothing.
 use Rattle.std.specs.Prelude.{◌≡◌, List, ℕ, ◌<◌, eqb}
 use Rattle.model.specs.Limits.{minus}
-use Rattle.model.specs.Logic.{if◌then◌else◌}
+use Rattle.model.specs.Logic.{when◌then◌else◌}
 use Rattle.model.specs.State.{State}
 use Rattle.model.specs.Records.{Reply, Done, finished}
 use Rattle.memory.specs.Layout.{state_in}
@@ -32,4 +32,4 @@ pub record LeadsBy (request : State → ℕ → Done) (first bytes₀ words₀ :
 
 -- the magnitude of a negative value; 0 for 0
 unfoldable pub magnitude : ℕ → ℕ
-magnitude v = if eqb v 0 then 0 else minus v
+magnitude v = when eqb v 0 then 0 else minus v

@@ -8,7 +8,7 @@ use native.Mathlib.Decide.{ℕ_discrete}
 use lib.ListN.{get_or}
 use borrow.Author.Tests.{eq-eqb, ne_eqb}
 use Rattle.model.specs.Limits.{ROWS, LINKS, EBUSY, minus}
-use Rattle.model.specs.Logic.{◌and◌, if◌then◌else◌, ◌or◌}
+use Rattle.model.specs.Logic.{◌and◌, when◌then◌else◌, ◌or◌}
 use Rattle.model.specs.State.{State, ACTIVE, SUSPENDED, with_status, with_error, with_ignore}
 use Rattle.model.specs.Requests.{running, parent_down, supplier_down, needed, set_active, set_suspended, ignore_children}
 use Rattle.model.specs.Records.{finished}
@@ -61,22 +61,22 @@ module _ (s : State) (p : ℕ) where
   module _ (stopped : running s p ≡ false) where
     module _ {a b : State} (keep : b ≡ with_error a p 0) where
       pub active_set : parent_down s p ≡ false → supplier_down s p ≡ false → a ≡ with_status s p ACTIVE → set_active s p ≡ finished b p 0
-      unfolding set_active if◌then◌else◌ ◌or◌
+      unfolding set_active when◌then◌else◌ ◌or◌
       active_set e f set = rw (keep, set, stopped, e, f)
 
       pub suspended_set : needed s p ≡ false → a ≡ with_status s p SUSPENDED → set_suspended s p ≡ finished b p 0
-      unfolding set_suspended if◌then◌else◌
+      unfolding set_suspended when◌then◌else◌
       suspended_set e set = rw (keep, set, stopped, e)
 
   module _ (v : ℕ) where
     pub ignore_on : {b : State} → v ≤ 1 → 0 < v → b ≡ with_ignore s p 1 → ignore_children s p v ≡ finished b p 0
-    unfolding ignore_children if◌then◌else◌ ◌and◌
+    unfolding ignore_children when◌then◌else◌ ◌and◌
     ignore_on few some keep = let e : v ≡ 1 = omega arith in rw (keep, e)
 
     pub ignore_busy : v ≤ 0 → inactive_with_children s p ≡ true → ignore_children s p v ≡ finished s p (minus EBUSY)
-    unfolding ignore_children inactive_with_children if◌then◌else◌ ◌and◌
+    unfolding ignore_children inactive_with_children when◌then◌else◌ ◌and◌
     ignore_busy none e = let z : v ≡ 0 = omega arith in rw (z, e)
 
     pub ignore_off : {b : State} → v ≤ 0 → inactive_with_children s p ≡ false → b ≡ with_ignore s p 0 → ignore_children s p v ≡ finished b p 0
-    unfolding ignore_children inactive_with_children if◌then◌else◌ ◌and◌
+    unfolding ignore_children inactive_with_children when◌then◌else◌ ◌and◌
     ignore_off none e keep = let z : v ≡ 0 = omega arith in rw (keep, z, e)

@@ -8,7 +8,7 @@ use native.Mathlib.Decide.{ℕ_discrete, dec_lt}
 use lib.Dec.{ltb, eqb}
 use borrow.Author.Tests.{lt-ltb, le-ltb, eq-eqb, eqb-true}
 use Rattle.model.specs.Limits.{EAGAIN, minus}
-use Rattle.model.specs.Logic.{if◌then◌else◌, ◌and◌, ◌or◌}
+use Rattle.model.specs.Logic.{when◌then◌else◌, ◌and◌, ◌or◌}
 use Rattle.model.specs.State.{State, SUSPENDED, ACTIVE, status_at, holds_at, linked_at, usage, with_status, with_callback, with_error}
 use Rattle.model.specs.Records.{Done, finished, ask}
 use Rattle.model.specs.Requests.{suspend_test, idle, put, idle_unused, put_idle, ask_suspend, suspend}
@@ -24,17 +24,17 @@ use Rattle.request_suspend.specs.Parts.{passing, settled}
 use Rattle.request_suspend.specs.Sleeps.{PutFirst, still_used, LetsSleep}
 
 -- ---- two tests as one code: the first that is not 0 stops, and with none the request goes on
-module _ (stop : ℕ → Done) (on : Done) (t d : ℕ) {code : ℕ} (chosen : code ≡ (if ltb 0 t then t else d)) where
-  stops : 0 < code → (if ltb 0 t then stop t else if ltb 0 d then stop d else on) ≡ stop code
-  unfolding if◌then◌else◌
+module _ (stop : ℕ → Done) (on : Done) (t d : ℕ) {code : ℕ} (chosen : code ≡ (when ltb 0 t then t else d)) where
+  stops : 0 < code → (when ltb 0 t then stop t else when ltb 0 d then stop d else on) ≡ stop code
+  unfolding when◌then◌else◌
   stops l =
       elim (dec_lt 0 t) [
         | yes y ↦ let e = rw (lt-ltb 0 t y) at chosen in rw (lt-ltb 0 t y, e)
         | no g ↦ let e = rw (le-ltb 0 t (omega arith)) at chosen in rw (le-ltb 0 t (omega arith), lt-ltb 0 d (rw e at l), e)
       ]
 
-  goes : code ≤ 0 → (if ltb 0 t then stop t else if ltb 0 d then stop d else on) ≡ on
-  unfolding if◌then◌else◌
+  goes : code ≤ 0 → (when ltb 0 t then stop t else when ltb 0 d then stop d else on) ≡ on
+  unfolding when◌then◌else◌
   goes l =
       elim (dec_lt 0 t) [
         | yes y ↦ let e = rw (lt-ltb 0 t y) at chosen in absurd (omega arith)
@@ -49,20 +49,20 @@ abbrev asleep : State → ℕ → Bool
 asleep s p = eqb (status_at s p) SUSPENDED
 
 abbrev needs_awake : Bool → ℕ
-needs_awake a = if a then 0 else minus EAGAIN
+needs_awake a = when a then 0 else minus EAGAIN
 
 abbrev refuses_asleep : Bool → ℕ
-refuses_asleep a = if a then 1 else 0
+refuses_asleep a = when a then 1 else 0
 
 unfoldable pub rest_code : State → ℕ → Bool → ℕ
 rest_code s p idles =
-    if ltb 0 (suspend_test s p) then suspend_test s p
-    else if idles then needs_awake (awake s p)
+    when ltb 0 (suspend_test s p) then suspend_test s p
+    else when idles then needs_awake (awake s p)
     else refuses_asleep (asleep s p)
 
 module _ (s : State) (p : ℕ) where
   pub code_of : {code t d a b : ℕ} (idles : Bool) → t ≡ suspend_test s p → a ≡ needs_awake (awake s p) → b ≡ refuses_asleep (asleep s p)
-      → d ≡ (if idles then a else b) → code ≡ (if ltb 0 t then t else d) → code ≡ rest_code s p idles
+      → d ≡ (when idles then a else b) → code ≡ (when ltb 0 t then t else d) → code ≡ rest_code s p idles
   unfolding rest_code
   code_of idles test waking sleeping asked chosen = rw (chosen, test, asked, waking, sleeping)
 
@@ -71,22 +71,22 @@ module _ (s : State) (p : ℕ) where
 
   -- the tests as a chain
   abbrev chain : ℕ → Done → Done
-  chain d on = if ltb 0 (suspend_test s p) then finished s p (suspend_test s p) else if ltb 0 d then finished s p d else on
+  chain d on = when ltb 0 (suspend_test s p) then finished s p (suspend_test s p) else when ltb 0 d then finished s p d else on
 
   idle_form : idle s p ≡ chain (needs_awake (awake s p)) asks_idle
-  unfolding idle if◌then◌else◌
+  unfolding idle when◌then◌else◌
   idle_form = go (awake s p)
     where
-      go : (a : Bool) → (if ltb 0 (suspend_test s p) then finished s p (suspend_test s p) else if not a then finished s p (minus EAGAIN) else asks_idle)
+      go : (a : Bool) → (when ltb 0 (suspend_test s p) then finished s p (suspend_test s p) else when not a then finished s p (minus EAGAIN) else asks_idle)
           ≡ chain (needs_awake a) asks_idle
       go true = refl
       go false = refl
 
   suspend_form : suspend s p ≡ chain (refuses_asleep (asleep s p)) (ask_suspend s p)
-  unfolding suspend if◌then◌else◌
+  unfolding suspend when◌then◌else◌
   suspend_form = go (asleep s p)
     where
-      go : (a : Bool) → (if ltb 0 (suspend_test s p) then finished s p (suspend_test s p) else if a then finished s p 1 else ask_suspend s p)
+      go : (a : Bool) → (when ltb 0 (suspend_test s p) then finished s p (suspend_test s p) else when a then finished s p 1 else ask_suspend s p)
           ≡ chain (refuses_asleep a) (ask_suspend s p)
       go true = refl
       go false = refl
@@ -96,19 +96,19 @@ module _ (s : State) (p : ℕ) where
     of e = is ∙ ap (rest_code s p) e
 
     pub idle_stops : idles ≡ true → 0 < code → idle s p ≡ finished s p code
-    unfolding rest_code if◌then◌else◌
+    unfolding rest_code when◌then◌else◌
     idle_stops e l = idle_form ∙ stops (λ x. finished s p x) asks_idle (suspend_test s p) (needs_awake (awake s p)) (of e) l
 
     pub idle_asks : idles ≡ true → code ≤ 0 → idle s p ≡ asks_idle
-    unfolding rest_code if◌then◌else◌
+    unfolding rest_code when◌then◌else◌
     idle_asks e l = idle_form ∙ goes (λ x. finished s p x) asks_idle (suspend_test s p) (needs_awake (awake s p)) (of e) l
 
     pub suspend_stops : idles ≡ false → 0 < code → suspend s p ≡ finished s p code
-    unfolding rest_code if◌then◌else◌
+    unfolding rest_code when◌then◌else◌
     suspend_stops e l = suspend_form ∙ stops (λ x. finished s p x) (ask_suspend s p) (suspend_test s p) (refuses_asleep (asleep s p)) (of e) l
 
     pub suspend_asks : idles ≡ false → code ≤ 0 → suspend s p ≡ ask_suspend s p
-    unfolding rest_code if◌then◌else◌
+    unfolding rest_code when◌then◌else◌
     suspend_asks e l = suspend_form ∙ goes (λ x. finished s p x) (ask_suspend s p) (suspend_test s p) (refuses_asleep (asleep s p)) (of e) l
 
 -- ---- kinds 6, 7 and 8
@@ -128,12 +128,12 @@ put_goes bytes₀ words₀ words₁ {p = p} e z on =
 
 -- which is finished with 0 while the device is in use
 used_stops : (s : State) (p : ℕ) → ltb 0 (usage s p) ≡ true → idle_unused s p ≡ finished s p 0
-unfolding idle_unused if◌then◌else◌
+unfolding idle_unused when◌then◌else◌
 used_stops s p e = rw e
 
 -- and else an idle
 unused_idles : (s : State) (p : ℕ) → ltb 0 (usage s p) ≡ false → idle_unused s p ≡ idle s p
-unfolding idle_unused if◌then◌else◌
+unfolding idle_unused when◌then◌else◌
 unused_idles s p e = rw e
 
 -- the device is in use: the sum of the two counts that are read
@@ -191,13 +191,13 @@ module _ {kind p code : ℕ} {first bytes₀ words₀ words₁ : List ℕ} (begu
 -- ---- a suspend callback's result
 module _ (s : State) (p v : ℕ) {a b : State} {z : ℕ} (set : a ≡ with_status s p z) (close : b ≡ with_callback a 0 0 0) (status : z ≡ settled v) where
   pub result_0 : eqb v 0 ≡ true → suspend_result s p v ≡ finished b p 0
-  unfolding suspend_result settled if◌then◌else◌
+  unfolding suspend_result settled when◌then◌else◌
   result_0 e = rw (close, set, status, e)
 
   pub result_passing : eqb v 0 ≡ false → passing v ≡ true → suspend_result s p v ≡ finished b p v
-  unfolding suspend_result settled passing if◌then◌else◌
+  unfolding suspend_result settled passing when◌then◌else◌
   result_passing e f = rw (close, set, status, e, f)
 
   pub result_kept : {c : State} {m : ℕ} → eqb v 0 ≡ false → passing v ≡ false → c ≡ with_error b p m → m ≡ magnitude v → suspend_result s p v ≡ finished c p v
-  unfolding suspend_result settled passing magnitude if◌then◌else◌
+  unfolding suspend_result settled passing magnitude when◌then◌else◌
   result_kept e f keep size = rw (keep, close, set, status, size, e, f)

@@ -2,7 +2,7 @@
 #![tactic(auto)]
 
 ghost use Rattle.std.specs.Prelude.{◌≡◌, List, ℕ, ltb};
-ghost use Rattle.model.specs.Logic.{if◌then◌else◌};
+ghost use Rattle.model.specs.Logic.{when◌then◌else◌};
 ghost use Rattle.model.specs.Requests.{ask_suspend};
 ghost use Rattle.model.specs.Steps.{idle_result, suspend_result};
 ghost use Rattle.memory.specs.Layout.{state_in};
@@ -21,7 +21,7 @@ use suspend_test::{suspend_test, usage};
 
 // The first of two codes that is not 0; 0 where both are.
 fn first_code(a: u16, b: u16) -> u16
-    ensures { result ≡ (if ltb 0 a then a else b) }
+    ensures { result ≡ (when ltb 0 a then a else b) }
 {
     choose(0 < a, a, b)
 }

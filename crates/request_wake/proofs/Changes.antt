@@ -7,7 +7,7 @@ use native.Mathlib.Omega.{arith}
 use native.Mathlib.Decide.{dec_lt}
 use lib.Dec.{eqb, ltb}
 use Rattle.model.specs.Limits.{EACCES, EBUSY, EINVAL, minus}
-use Rattle.model.specs.Logic.{if◌then◌else◌}
+use Rattle.model.specs.Logic.{when◌then◌else◌}
 use Rattle.model.specs.State.{State, SUSPENDED, ACTIVE, status_at, error_at, depth_at, with_status, with_callback, with_error}
 use Rattle.model.specs.WakeSet.{lowest}
 use Rattle.model.specs.Records.{Done, finished}
@@ -38,44 +38,44 @@ pub record Clear (s : State) (p : ℕ) : Type 0 where
 
 module _ (s : State) (p : ℕ) where
   pub wake_error : ltb 0 (error_at s p) ≡ true → wake s p ≡ finished s p (minus EINVAL)
-  unfolding wake if◌then◌else◌
+  unfolding wake when◌then◌else◌
   wake_error y = rw y
 
   pub wake_disabled : ltb 0 (error_at s p) ≡ false → ltb 0 (depth_at s p) ≡ true → wake s p ≡ finished s p (minus EACCES)
-  unfolding wake if◌then◌else◌
+  unfolding wake when◌then◌else◌
   wake_disabled n y = rw (n, y)
 
   pub wake_active : Clear s p → eqb (status_at s p) ACTIVE ≡ true → wake s p ≡ finished s p 1
-  unfolding wake if◌then◌else◌
+  unfolding wake when◌then◌else◌
   wake_active c y = rw (c.error, c.depth, y)
 
   pub wake_barred : Clear s p → eqb (status_at s p) ACTIVE ≡ false → others_barred s p ≡ true → wake s p ≡ finished s p (minus EBUSY)
-  unfolding wake if◌then◌else◌
+  unfolding wake when◌then◌else◌
   wake_barred c n y = rw (c.error, c.depth, n, y)
 
   pub wake_asks : {low : ℕ} → Clear s p → eqb (status_at s p) ACTIVE ≡ false → others_barred s p ≡ false → low ≡ lowest s p → wake s p ≡ resume_of s low p
-  unfolding wake ask_resume resume_of if◌then◌else◌
+  unfolding wake ask_resume resume_of when◌then◌else◌
   wake_asks c n m e = rw (c.error, c.depth, n, m, e)
 
 -- ---- the next member, or none
 module _ (s : State) (t : ℕ) {low : ℕ} (e : low ≡ lowest s t) where
   pub goes_done : ltb low s.wiring.n ≡ false → go_on s t ≡ finished s t 0
-  unfolding go_on if◌then◌else◌
+  unfolding go_on when◌then◌else◌
   goes_done n = rw (← e, n)
 
   pub goes_asks : ltb low s.wiring.n ≡ true → go_on s t ≡ resume_of s low t
-  unfolding go_on ask_resume resume_of if◌then◌else◌
+  unfolding go_on ask_resume resume_of when◌then◌else◌
   goes_asks y = rw (← e, y)
 
 -- ---- the result v of p's resume callback, for the wake of t
 module _ (s : State) (p t v : ℕ) {a b : State} where
   pub result_goes : a ≡ with_status s p ACTIVE → b ≡ with_callback a 0 0 0 → eqb v 0 ≡ true → resume_result s p t v ≡ go_on b t
-  unfolding resume_result if◌then◌else◌
+  unfolding resume_result when◌then◌else◌
   result_goes set close e = rw (close, set, e)
 
   pub result_failed : {c : State} {m code : ℕ} → a ≡ with_status s p SUSPENDED → b ≡ with_callback a 0 0 0 → c ≡ with_error b p m →
       m ≡ magnitude v → code ≡ failed p t v → eqb v 0 ≡ false → resume_result s p t v ≡ finished c t code
-  unfolding resume_result magnitude failed if◌then◌else◌
+  unfolding resume_result magnitude failed when◌then◌else◌
   result_failed set close keep size told e = rw (told, keep, close, set, size, e)
 
   -- what go_on asks of the state that it starts from

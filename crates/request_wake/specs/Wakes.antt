@@ -1,7 +1,7 @@
 -- Parts of the model's wake that have functions of their own. Assumes nothing.
 use Rattle.std.specs.Prelude.{◌≡◌, List, ℕ, ◌<◌, eqb}
 use Rattle.model.specs.Limits.{EBUSY, minus}
-use Rattle.model.specs.Logic.{if◌then◌else◌}
+use Rattle.model.specs.Logic.{when◌then◌else◌}
 use Rattle.model.specs.State.{State, RESUMING, ACTIVE, status_at, with_status, with_callback}
 use Rattle.model.specs.Records.{Done, ask}
 use Rattle.model.specs.Steps.{resume_result}
@@ -28,4 +28,4 @@ pub record ResultLeads (t v : ℕ) (first bytes₀ words₀ : List ℕ) (p : ℕ
 
 -- the code of the wake of t, where the resume callback of p failed with v
 unfoldable pub failed : ℕ → ℕ → ℕ → ℕ
-failed p t v = if eqb p t then v else minus EBUSY
+failed p t v = when eqb p t then v else minus EBUSY

@@ -7,7 +7,7 @@ use native.Mathlib.Omega.{arith}
 use lib.ListN.{length, take, replicate, length-replicate}
 use lib.Seq.{take_at}
 use borrow.Author.Tests.{le-ltb}
-use Rattle.model.specs.Logic.{if◌then◌else◌}
+use Rattle.model.specs.Logic.{when◌then◌else◌}
 use Rattle.model.specs.State.{State}
 use Rattle.model.specs.Sound.{Sound}
 use Rattle.model.specs.Feed.{Piece, over}
@@ -54,7 +54,7 @@ restore_exists s h =
 
 -- ---- a battery change: a call of `save` on a bench of a sound state, with just the room that the form needs, and that call of `restore`
 save_done : {s : State} → Sound s → (buffer : List ℕ) → FORM ≤ length buffer → save_of s buffer ≡ record { number = 0; buffer = over (form s) buffer }
-unfolding save_of save_number if◌then◌else◌
+unfolding save_of save_number when◌then◌else◌
 save_done h buffer l = rw (sound_tested h, le-ltb _ _ l)
 
 abbrev room : List ℕ

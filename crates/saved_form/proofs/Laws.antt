@@ -8,7 +8,7 @@ use native.Mathlib.Omega.{arith}
 use lib.ListN.{length, get_or, take, drop, length-append, length-drop, take-append-drop}
 use lib.Seq.{drop-cons, drop-drop, take_at, drop_at, take_all, get_or-drop}
 use borrow.Author.Tests.{eqb-true}
-use Rattle.model.specs.Logic.{if◌then◌else◌, ◌and◌}
+use Rattle.model.specs.Logic.{when◌then◌else◌, ◌and◌}
 use Rattle.model.specs.State.{State}
 use Rattle.model.specs.Sound.{Sound}
 use Rattle.model.specs.Feed.{over}
@@ -142,7 +142,7 @@ refusals_empty f e = refused_empty f e
 
 -- what a saving that is not refused writes
 pub saved_form : (s : State) (buffer : List ℕ) → (save_of s buffer).number ≡ 0 → (save_of s buffer).buffer ≡ over (form s) buffer
-unfolding save_of if◌then◌else◌
+unfolding save_of when◌then◌else◌
 saved_form s buffer e = rw e
 
 pub saved_restores : SavedRestores

@@ -9,7 +9,7 @@ use native.Mathlib.Decide.{ℕ_discrete}
 use lib.ListN.{length, replicate, length-replicate, drop_of_length-le}
 use lib.Dec.{eqb}
 use borrow.Author.Tests.{le-ltb, eq-eqb, ne_eqb, eqb-true, not-false}
-use Rattle.model.specs.Logic.{if◌then◌else◌}
+use Rattle.model.specs.Logic.{when◌then◌else◌}
 use Rattle.model.specs.State.{empty_state}
 use Rattle.model.specs.Sound.{Sound}
 use Rattle.model.proofs.Basics.{by_if}
@@ -49,19 +49,19 @@ laid_all array cells e = rw (zero-add, drop_of_length-le array {i = length cells
 
 -- version 1 has all bytes and all words
 pub version1_length : length_by version1 ≡ FORM
-unfolding length_by width FORM if◌then◌else◌
+unfolding length_by width FORM when◌then◌else◌
 version1_length = omega arith
 
 pub version1_bytes : (f : List ℕ) → length f ≡ FORM → bytes_by f version1 (replicate BYTES 0) ≡ bytes_in f
-unfolding bytes_by cells_in width if◌then◌else◌
+unfolding bytes_by cells_in width when◌then◌else◌
 version1_bytes f l = laid_all (replicate BYTES 0) (bytes_in f) (bytes_in_long f l ∙ sym (length-replicate BYTES 0))
 
 pub version1_words : (f : List ℕ) → length f ≡ FORM → words_by f version1 (replicate WORDS 0) ≡ words_in f
-unfolding words_by cells_in width if◌then◌else◌
+unfolding words_by cells_in width when◌then◌else◌
 version1_words f l = laid_all (replicate WORDS 0) (words_in f) (words_in_long f l ∙ sym (length-replicate WORDS 0))
 
 pub version1_state : (f : List ℕ) → length f ≡ FORM → state_by f (spans 1) ≡ state_in (bytes_in f) (words_in f)
-unfolding state_by spans if◌then◌else◌
+unfolding state_by spans when◌then◌else◌
 version1_state f l = rw (version1_bytes f l, version1_words f l)
 
 pub known_1 : (v : ℕ) → known v ≡ true → v ≡ 1
@@ -69,7 +69,7 @@ unfolding known
 known_1 v h = eqb-true v 1 h
 
 pub spans_1_length : length_by (spans 1) ≡ FORM
-unfolding spans if◌then◌else◌
+unfolding spans when◌then◌else◌
 spans_1_length = version1_length
 
 -- ---- what restores
@@ -102,7 +102,7 @@ headed f =
     go e v l = record { mark = e; version = v; long = (rw v at l) ∙ spans_1_length }
 
 pub head_passes : (f : List ℕ) → HEADER ≤ length f → Headed f → head_answer f ≡ 0
-unfolding head_answer known if◌then◌else◌
+unfolding head_answer known when◌then◌else◌
 head_passes f l h = rw (le-ltb _ _ l, h.mark, h.version, spans_1_length, eq-eqb _ _ h.long)
 
 module _ (f : List ℕ) (h : Headed f) where
@@ -111,11 +111,11 @@ module _ (f : List ℕ) (h : Headed f) where
 
   -- restoring by what is read
   restore_read : head_answer f ≡ 0 → restore_of f ≡ judged_of (state_in (bytes_in f) (words_in f))
-  unfolding restore_of if◌then◌else◌
+  unfolding restore_of when◌then◌else◌
   restore_read e = rw (e, h.version, version1_state f h.long)
 
   pub restore_done : head_answer f ≡ 0 → Sound (state_in (bytes_in f) (words_in f)) → restore_of f ≡ record { number = 0; state = state_in (bytes_in f) (words_in f) }
-  unfolding judged_of if◌then◌else◌
+  unfolding judged_of when◌then◌else◌
   restore_done e s = restore_read e ∙ rw (sound_tested s)
 
   judged_passed : head_answer f ≡ 0 → (judged_of (state_in (bytes_in f) (words_in f))).number ≡ 0 → Passed f
@@ -131,7 +131,7 @@ module _ (f : List ℕ) (h : Headed f) where
       P x = x.number ≡ 0 → Passed f
 
 head_refused : (f : List ℕ) → (head_answer f ≡ 0 → ⊥) → (restore_of f).number ≡ head_answer f
-unfolding restore_of if◌then◌else◌
+unfolding restore_of when◌then◌else◌
 head_refused f e = rw (ne_eqb _ _ e)
 
 pub restored_passed : (f : List ℕ) → (restore_of f).number ≡ 0 → Passed f

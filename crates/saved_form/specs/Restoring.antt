@@ -1,7 +1,7 @@
 -- "Restoring refuses with the empty bench and a number, in this order: under 5 bytes 1, mark 2, version 3, length 5, anything else that is
 -- no sound bench's form 21." A version is a table of spans, so that a later version is another table. Assumes nothing.
 use Rattle.std.specs.Prelude.{Bool, true, false, not, List, [], ◌∷◌, ◌++◌, ℕ, ◌+◌, ◌*◌, length, get_or, take, drop, replicate, ltb, eqb}
-use Rattle.model.specs.Logic.{if◌then◌else◌, ◌and◌}
+use Rattle.model.specs.Logic.{when◌then◌else◌, ◌and◌}
 use Rattle.model.specs.State.{State, empty_state}
 use Rattle.model.specs.SoundTest.{sound_test}
 use Rattle.memory.specs.Layout.{BYTES, WORDS, area, state_in}
@@ -19,14 +19,14 @@ version1 =
 
 -- the spans of a version; a version that is not known has none
 unfoldable pub spans : ℕ → List Span
-spans v = if eqb v 1 then version1 else []
+spans v = when eqb v 1 then version1 else []
 
 unfoldable pub known : ℕ → Bool
 known v = eqb v 1
 
 -- how many bytes a span has in the form, and how long a form with these spans is
 unfoldable pub width : Span → ℕ
-width p = if p.words then 4 * p.cells else p.cells
+width p = when p.words then 4 * p.cells else p.cells
 
 unfoldable pub length_by : List Span → ℕ
 length_by [] = HEADER
@@ -35,7 +35,7 @@ length_by (p ∷ ps) = width p + length_by ps
 -- ---- the memory that a form gives by its spans
 -- the cells of a span, as they stand in form f
 unfoldable pub cells_in : List ℕ → Span → List ℕ
-cells_in f p = if p.words then words_from (area p.at (width p) f) else area p.at (width p) f
+cells_in f p = when p.words then words_from (area p.at (width p) f) else area p.at (width p) f
 
 -- an array with other cells from a place on
 unfoldable pub laid : List ℕ → ℕ → List ℕ → List ℕ
@@ -44,11 +44,11 @@ laid array to cells = take to array ++ (cells ++ drop (to + length cells) array)
 -- the bytes, and the words, with each span laid at its place
 unfoldable pub bytes_by : List ℕ → List Span → List ℕ → List ℕ
 bytes_by f [] bytes = bytes
-bytes_by f (p ∷ ps) bytes = bytes_by f ps (if p.words then bytes else laid bytes p.to (cells_in f p))
+bytes_by f (p ∷ ps) bytes = bytes_by f ps (when p.words then bytes else laid bytes p.to (cells_in f p))
 
 unfoldable pub words_by : List ℕ → List Span → List ℕ → List ℕ
 words_by f [] words = words
-words_by f (p ∷ ps) words = words_by f ps (if p.words then laid words p.to (cells_in f p) else words)
+words_by f (p ∷ ps) words = words_by f ps (when p.words then laid words p.to (cells_in f p) else words)
 
 -- what no span has is 0
 unfoldable pub state_by : List ℕ → List Span → State
@@ -64,10 +64,10 @@ version_in f = get_or f 3 0 + 256 * get_or f 4 0
 -- what the header and the length are answered: 1, 2, 3, 5, or 0
 unfoldable pub head_answer : List ℕ → ℕ
 head_answer f =
-    if ltb (length f) HEADER then 1
-    else if not (marked f) then 2
-    else if not (known (version_in f)) then 3
-    else if not (eqb (length f) (length_by (spans (version_in f)))) then 5
+    when ltb (length f) HEADER then 1
+    else when not (marked f) then 2
+    else when not (known (version_in f)) then 3
+    else when not (eqb (length f) (length_by (spans (version_in f)))) then 5
     else 0
 
 -- what restoring gives: a refusal's number or 0, and the bench, empty where the bytes are refused
@@ -80,7 +80,7 @@ refusal number = record { number = number; state = empty_state }
 
 -- a bench that was read, or 21
 unfoldable pub judged_of : State → Restored
-judged_of s = if sound_test s then record { number = 0; state = s } else refusal 21
+judged_of s = when sound_test s then record { number = 0; state = s } else refusal 21
 
 unfoldable pub restore_of : List ℕ → Restored
-restore_of f = if eqb (head_answer f) 0 then judged_of (state_by f (spans (version_in f))) else refusal (head_answer f)
+restore_of f = when eqb (head_answer f) 0 then judged_of (state_by f (spans (version_in f))) else refusal (head_answer f)

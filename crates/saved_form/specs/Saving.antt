@@ -1,6 +1,6 @@
 -- "Saving an unsound bench is refused with 21, then a short buffer with 8, nothing written; bytes past the form stay." Assumes nothing.
 use Rattle.std.specs.Prelude.{not, List, ℕ, length, ltb, eqb}
-use Rattle.model.specs.Logic.{if◌then◌else◌}
+use Rattle.model.specs.Logic.{when◌then◌else◌}
 use Rattle.model.specs.State.{State}
 use Rattle.model.specs.SoundTest.{sound_test}
 use Rattle.model.specs.Feed.{over}
@@ -13,9 +13,9 @@ pub record Saved : Type 0 where
 
 unfoldable pub save_number : State → List ℕ → ℕ
 save_number s buffer =
-    if not (sound_test s) then 21
-    else if ltb (length buffer) FORM then 8
+    when not (sound_test s) then 21
+    else when ltb (length buffer) FORM then 8
     else 0
 
 unfoldable pub save_of : State → List ℕ → Saved
-save_of s buffer = record { number = save_number s buffer; buffer = if eqb (save_number s buffer) 0 then over (form s) buffer else buffer }
+save_of s buffer = record { number = save_number s buffer; buffer = when eqb (save_number s buffer) 0 then over (form s) buffer else buffer }

@@ -4,7 +4,7 @@ use mathlib.Core.List.{List}
 use Prim.Native.Nat.{ℕ}
 use native.Mathlib.Decide.{ℕ_discrete}
 use borrow.Author.Tests.{ne_eqb}
-use Rattle.model.specs.Logic.{if◌then◌else◌}
+use Rattle.model.specs.Logic.{when◌then◌else◌}
 use Rattle.model.specs.State.{State, empty_state}
 use Rattle.model.proofs.Basics.{by_if}
 use Rattle.memory.specs.Layout.{state_in}
@@ -21,13 +21,13 @@ judged_empty = by_if (λ (r : Restored). r.state ≡ empty_state) _ _ _ (λ e. r
 
 module _ (f : List ℕ) (c : Cells) (h : ReadIs f c) where
   pub restore_refused : (restoring_of c.answer ≡ 0 → ⊥) → refusal (restoring_of c.answer) ≡ restore_of f
-  unfolding restore_of if◌then◌else◌
+  unfolding restore_of when◌then◌else◌
   restore_refused z =
       let ne : head_answer f ≡ 0 → ⊥ = λ y. z (h.number ∙ y) in
       rw (ne_eqb _ _ ne, h.number)
 
   pub restore_read : restoring_of c.answer ≡ 0 → judged_of (state_in c.bytes c.words) ≡ restore_of f
-  unfolding restore_of state_by if◌then◌else◌
+  unfolding restore_of state_by when◌then◌else◌
   restore_read z =
       let e : head_answer f ≡ 0 = sym h.number ∙ z in
       let b = rw e at h.bytes in
@@ -36,7 +36,7 @@ module _ (f : List ℕ) (c : Cells) (h : ReadIs f c) where
 
   -- a refusal leaves zeros
   zeros : (restoring_of c.answer ≡ 0 → ⊥) → state_in c.bytes c.words ≡ empty_state
-  unfolding if◌then◌else◌
+  unfolding when◌then◌else◌
   zeros z =
       let e = ne_eqb (head_answer f) 0 (λ y. z (h.number ∙ y)) in
       let b = rw e at h.bytes in

@@ -7,7 +7,7 @@ use native.Mathlib.Omega.{arith}
 use native.Mathlib.Numerals.{add-one}
 use lib.ListN.{length, get_or, take, drop, drop_of_length-le}
 use lib.Seq.{take_all, drop-cons}
-use Rattle.model.specs.Logic.{if◌then◌else◌}
+use Rattle.model.specs.Logic.{when◌then◌else◌}
 use Rattle.model.specs.Feed.{over}
 use Rattle.memory.specs.Layout.{area}
 use Rattle.memory.proofs.Pages.{area_length}
@@ -40,21 +40,21 @@ words_laid f xs ys at to n h l e =
 -- ---- a span fits
 module _ {f : List ℕ} {p : Span} {bytes words : List ℕ} (h : Fits f p bytes words) where
   pub fits_words : p.words ≡ true → (p.at + 4 * p.cells ≤ length f) × (p.to + p.cells ≤ length words)
-  unfolding width if◌then◌else◌
+  unfolding width when◌then◌else◌
   fits_words e = (rw e at h.within, rw e at h.room)
 
   pub fits_bytes : p.words ≡ false → (p.at + p.cells ≤ length f) × (p.to + p.cells ≤ length bytes)
-  unfolding width if◌then◌else◌
+  unfolding width when◌then◌else◌
   fits_bytes e = (rw e at h.within, rw e at h.room)
 
 -- ---- and is laid
 module _ (f : List ℕ) (p : Span) (bytes words : List ℕ) where
   pub placed_words : {after : List ℕ} → p.words ≡ true → after ≡ laid words p.to (words_from (area p.at (4 * p.cells) f)) → Placed f p bytes words bytes after
-  unfolding cells_in width if◌then◌else◌
+  unfolding cells_in width when◌then◌else◌
   placed_words e h = record { in_bytes = rw e; in_words = rw e h }
 
   pub placed_bytes : {after : List ℕ} → p.words ≡ false → after ≡ laid bytes p.to (area p.at p.cells f) → Placed f p bytes words after words
-  unfolding cells_in width if◌then◌else◌
+  unfolding cells_in width when◌then◌else◌
   placed_bytes e h = record { in_bytes = rw e h; in_words = rw e }
 
 -- ---- one span after another
@@ -64,7 +64,7 @@ no_span = record { words = false; at = 0; cells = 0; to = 0 }
 -- the arrays keep their lengths
 module _ {f : List ℕ} {p : Span} {bytes words bytes₁ words₁ : List ℕ} (h : Fits f p bytes words) (g : Placed f p bytes words bytes₁ words₁) where
   placed_long : (w : Bool) → p.words ≡ w → (length bytes₁ ≡ length bytes) × (length words₁ ≡ length words)
-  unfolding cells_in width if◌then◌else◌
+  unfolding cells_in width when◌then◌else◌
   placed_long true e =
       let (within, room) = fits_words h e in
       let many : length (words_from (area p.at (4 * p.cells) f)) ≡ p.cells =

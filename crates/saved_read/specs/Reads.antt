@@ -1,6 +1,6 @@
 -- A form read into two arrays, span by span. Assumes nothing.
 use Rattle.std.specs.Prelude.{◌≡◌, List, [], ◌∷◌, ℕ, ◌+◌, ◌≤◌, eqb, length, replicate}
-use Rattle.model.specs.Logic.{if◌then◌else◌}
+use Rattle.model.specs.Logic.{when◌then◌else◌}
 use Rattle.memory.specs.Layout.{BYTES, WORDS}
 use Rattle.saved_answer.specs.Answers.{restoring_of}
 use Rattle.saved_form.specs.declared.Span.{Span}
@@ -10,7 +10,7 @@ use Rattle.saved_read.specs.declared.Cells.{Cells}
 -- the form has the span, and its array has room for it
 pub record Fits (f : List ℕ) (p : Span) (bytes words : List ℕ) : Type 0 where
   pub within : p.at + width p ≤ length f
-  pub room : p.to + p.cells ≤ (if p.words then length words else length bytes)
+  pub room : p.to + p.cells ≤ (when p.words then length words else length bytes)
 
 unfoldable pub AllFit : List ℕ → List Span → List ℕ → List ℕ → Type 0
 AllFit f [] bytes words = Unit {0}
@@ -18,8 +18,8 @@ AllFit f (p ∷ ps) bytes words = Fits f p bytes words × AllFit f ps bytes word
 
 -- one span laid, all of them laid
 pub record Placed (f : List ℕ) (p : Span) (bytes₀ words₀ bytes words : List ℕ) : Type 0 where
-  pub in_bytes : bytes ≡ (if p.words then bytes₀ else laid bytes₀ p.to (cells_in f p))
-  pub in_words : words ≡ (if p.words then laid words₀ p.to (cells_in f p) else words₀)
+  pub in_bytes : bytes ≡ (when p.words then bytes₀ else laid bytes₀ p.to (cells_in f p))
+  pub in_words : words ≡ (when p.words then laid words₀ p.to (cells_in f p) else words₀)
 
 pub record Filled (f : List ℕ) (ps : List Span) (bytes₀ words₀ bytes words : List ℕ) : Type 0 where
   pub in_bytes : bytes ≡ bytes_by f ps bytes₀
@@ -34,5 +34,5 @@ pub record CellsOf (f : List ℕ) (r : Cells) : Type 0 where
 -- the answer to header and length, and the arrays: by the spans of the version, zeros where the bytes are refused
 pub record ReadIs (f : List ℕ) (r : Cells) : Type 0 where
   pub number : restoring_of r.answer ≡ head_answer f
-  pub bytes : r.bytes ≡ (if eqb (head_answer f) 0 then bytes_by f (spans (version_in f)) (replicate BYTES 0) else replicate BYTES 0)
-  pub words : r.words ≡ (if eqb (head_answer f) 0 then words_by f (spans (version_in f)) (replicate WORDS 0) else replicate WORDS 0)
+  pub bytes : r.bytes ≡ (when eqb (head_answer f) 0 then bytes_by f (spans (version_in f)) (replicate BYTES 0) else replicate BYTES 0)
+  pub words : r.words ≡ (when eqb (head_answer f) 0 then words_by f (spans (version_in f)) (replicate WORDS 0) else replicate WORDS 0)

@@ -7,7 +7,7 @@ use native.Mathlib.Omega.{arith}
 use lib.ListN.{length, take, drop, length-append}
 use lib.Seq.{take_all, take_at, drop_at, drop-drop}
 use borrow.Author.Tests.{le-leb, lt-leb}
-use Rattle.model.specs.Logic.{if◌then◌else◌}
+use Rattle.model.specs.Logic.{when◌then◌else◌}
 use Rattle.model.specs.Feed.{over}
 use Rattle.memory.specs.Layout.{BYTES, WORDS, state_in}
 use Rattle.memory.proofs.Inverse.{bytes_of_lem, words_of_lem}
@@ -71,9 +71,9 @@ module _ (bytes words d : List ℕ) (b : length bytes ≡ BYTES) (w : length wor
 
 -- ---- what writing answers
 pub no_room : {bytes words out : List ℕ} → length out < FORM → WriteIs bytes words out false out
-unfolding if◌then◌else◌
+unfolding when◌then◌else◌
 no_room l = record { room = sym (lt-leb _ _ l); buffer = rw (lt-leb _ _ l) }
 
 pub written : {bytes words out after : List ℕ} → FORM ≤ length out → after ≡ over (form (state_in bytes words)) out → WriteIs bytes words out true after
-unfolding if◌then◌else◌
+unfolding when◌then◌else◌
 written l e = record { room = sym (le-leb _ _ l); buffer = rw (le-leb _ _ l) e }

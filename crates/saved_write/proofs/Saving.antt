@@ -6,7 +6,7 @@ use Prim.Native.Nat.{ℕ, ◌≤◌, ◌<◌}
 use lib.ListN.{length}
 use lib.Dec.{leb}
 use borrow.Author.Tests.{le-ltb, lt-ltb, leb-true, leb-false}
-use Rattle.model.specs.Logic.{if◌then◌else◌}
+use Rattle.model.specs.Logic.{when◌then◌else◌}
 use Rattle.model.specs.State.{State}
 use Rattle.model.specs.SoundTest.{sound_test}
 use Rattle.model.specs.Feed.{over}
@@ -20,23 +20,23 @@ told n buffer = record { number = n; buffer = buffer }
 
 module _ (s : State) (out : List ℕ) (e : sound_test s ≡ true) where
   save_short : length out < FORM → told 8 out ≡ save_of s out
-  unfolding save_of save_number if◌then◌else◌
+  unfolding save_of save_number when◌then◌else◌
   save_short l = rw (e, lt-ltb _ _ l)
 
   save_done : FORM ≤ length out → told 0 (over (form s) out) ≡ save_of s out
-  unfolding save_of save_number if◌then◌else◌
+  unfolding save_of save_number when◌then◌else◌
   save_done l = rw (e, le-ltb _ _ l)
 
 module _ (bytes words out : List ℕ) {r : Bool} {after : List ℕ} (e : sound_test (state_in bytes words) ≡ true) (w : WriteIs bytes words out r after) where
   pub saved_room : r ≡ false → told 8 after ≡ save_of (state_in bytes words) out
-  unfolding if◌then◌else◌
+  unfolding when◌then◌else◌
   saved_room z =
       let f : leb FORM (length out) ≡ false = sym w.room ∙ z in
       let same : after ≡ out = rw f at w.buffer in
       rw same (save_short (state_in bytes words) out e (leb-false _ _ f))
 
   pub saved_written : r ≡ true → told 0 after ≡ save_of (state_in bytes words) out
-  unfolding if◌then◌else◌
+  unfolding when◌then◌else◌
   saved_written z =
       let f : leb FORM (length out) ≡ true = sym w.room ∙ z in
       let same : after ≡ over (form (state_in bytes words)) out = rw f at w.buffer in

@@ -7,7 +7,7 @@ use native.Mathlib.Omega.{arith}
 use native.Mathlib.Decide.{ℕ_discrete, dec_lt}
 use lib.Dec.{eqb}
 use borrow.Author.Tests.{eq-eqb, ne_eqb, lt-ltb}
-use Rattle.model.specs.Logic.{if◌then◌else◌, ◌and◌, ◌implies◌, all}
+use Rattle.model.specs.Logic.{when◌then◌else◌, ◌and◌, ◌implies◌, all}
 use Rattle.model.specs.State.{State, RESUMING, status_at}
 use Rattle.model.specs.Sound.{Ordered}
 use Rattle.model.specs.WakeSet.{self, in_wake, lowest}
@@ -86,21 +86,21 @@ module _ (s : State) (t : ℕ) where
 -- ---- by the callback's kind
 module _ (s : State) where
   pub kind_none : s.callback.kind ≡ 0 → none_test s ≡ callback_test s
-  unfolding callback_test if◌then◌else◌
+  unfolding callback_test when◌then◌else◌
   kind_none e = rw (eq-eqb s.callback.kind 0 e)
 
   pub kind_suspend : s.callback.kind ≡ 1 → suspend_open_test s s.callback.asked ≡ callback_test s
-  unfolding callback_test if◌then◌else◌
+  unfolding callback_test when◌then◌else◌
   kind_suspend e = rw (ne_eqb s.callback.kind 0 (λ z. omega arith), eq-eqb s.callback.kind 1 e)
 
   pub kind_resume : s.callback.kind ≡ 2 → resume_open_test s s.callback.asked s.callback.target ≡ callback_test s
-  unfolding callback_test if◌then◌else◌
+  unfolding callback_test when◌then◌else◌
   kind_resume e = rw (ne_eqb s.callback.kind 0 (λ z. omega arith), ne_eqb s.callback.kind 1 (λ z. omega arith), eq-eqb s.callback.kind 2 e)
 
   pub kind_idle : s.callback.kind ≡ 3 → idle_open_test s s.callback.asked ≡ callback_test s
-  unfolding callback_test if◌then◌else◌
+  unfolding callback_test when◌then◌else◌
   kind_idle e = rw (ne_eqb s.callback.kind 0 (λ z. omega arith), ne_eqb s.callback.kind 1 (λ z. omega arith), ne_eqb s.callback.kind 2 (λ z. omega arith), eq-eqb s.callback.kind 3 e)
 
   pub kind_other : (s.callback.kind ≡ 0 → ⊥) → (s.callback.kind ≡ 1 → ⊥) → (s.callback.kind ≡ 2 → ⊥) → (s.callback.kind ≡ 3 → ⊥) → false ≡ callback_test s
-  unfolding callback_test if◌then◌else◌
+  unfolding callback_test when◌then◌else◌
   kind_other a b c d = rw (ne_eqb s.callback.kind 0 a, ne_eqb s.callback.kind 1 b, ne_eqb s.callback.kind 2 c, ne_eqb s.callback.kind 3 d)

@@ -9,7 +9,7 @@ use lib.ListN.{length, drop}
 use lib.Seq.{drop-length}
 use lib.Dec.{ltb}
 use borrow.Author.Tests.{le-ltb}
-use Rattle.model.specs.Logic.{if◌then◌else◌}
+use Rattle.model.specs.Logic.{when◌then◌else◌}
 use Rattle.model.specs.State.{State}
 use Rattle.model.specs.Sound.{Sound}
 use Rattle.model.specs.SoundTest.{sound_test}
@@ -27,11 +27,11 @@ use Rattle.saved.specs.Translate.{saved_of}
 
 -- ---- the number, by the soundness test
 unsound_number : (s : State) (buffer : List ℕ) → sound_test s ≡ false → save_number s buffer ≡ 21
-unfolding save_number if◌then◌else◌
+unfolding save_number when◌then◌else◌
 unsound_number s buffer e = rw e
 
 sound_number : (s : State) (buffer : List ℕ) → length buffer ≡ FORM → sound_test s ≡ true → save_number s buffer ≡ 0
-unfolding save_number if◌then◌else◌
+unfolding save_number when◌then◌else◌
 sound_number s buffer l e = let m : ltb (length buffer) FORM ≡ false = le-ltb (length buffer) FORM (omega arith) in rw (e, m)
 
 by_test : (b : Bool) (s : State) (buffer : List ℕ) → sound_test s ≡ b → save_number s buffer ≡ 0 → sound_test s ≡ true

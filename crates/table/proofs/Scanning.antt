@@ -7,7 +7,7 @@ use Prim.Native.Nat.{ℕ, ◌+◌, ◌<◌, ◌≤◌}
 use native.Mathlib.Omega.{arith}
 use native.Mathlib.Nat.{eq-or-lt_of_le}
 use borrow.Author.Tests.{lt-ltb, le-ltb}
-use Rattle.model.specs.Logic.{if◌then◌else◌, ◌and◌}
+use Rattle.model.specs.Logic.{when◌then◌else◌, ◌and◌}
 use Rattle.model.specs.Table.{devices_in, links_in, device_good, link_fits, ascends, link_good, bad_device, bad_link, entries_answer}
 use Rattle.model.proofs.Basics.{first_at, first_none}
 
@@ -48,7 +48,7 @@ module _ {t : List ℕ} {n m p i : ℕ} (h : Passed t n m p i) where
 
   -- ---- what the scan comes to
   pub stop_device : p < n → device_good t p ≡ false → record { number = 6; index = p } ≡ entries_answer t
-  unfolding entries_answer bad_device if◌then◌else◌
+  unfolding entries_answer bad_device when◌then◌else◌
   stop_device l e =
       let b : bad_device t ≡ p = first_at (λ k. not (device_good t k)) (devices_in t) p (λ k z. rw (h.devices k z)) (rw h.devices_are at l) (rw e) in
       rw (b, lt-ltb p (devices_in t) (rw h.devices_are at l))
@@ -58,13 +58,13 @@ module _ {t : List ℕ} {n m p i : ℕ} (h : Passed t n m p i) where
   all_devices l = first_none (λ k. not (device_good t k)) (devices_in t) (λ k z. let y = h.devices_are in rw (h.devices k (omega arith)))
 
   pub stop_link : n ≤ p → i < m → link_good t i ≡ false → record { number = 7; index = i } ≡ entries_answer t
-  unfolding entries_answer bad_link if◌then◌else◌
+  unfolding entries_answer bad_link when◌then◌else◌
   stop_link d l e =
       let b : bad_link t ≡ i = first_at (λ k. not (link_good t k)) (links_in t) i (λ k z. rw (h.links k z)) (rw h.links_are at l) (rw e) in
       rw (all_devices d, le-ltb (devices_in t) (devices_in t) (omega arith), b, lt-ltb i (links_in t) (rw h.links_are at l))
 
   pub stop_end : n ≤ p → m ≤ i → record { number = 0; index = 0 } ≡ entries_answer t
-  unfolding entries_answer bad_link if◌then◌else◌
+  unfolding entries_answer bad_link when◌then◌else◌
   stop_end d l =
       let b : bad_link t ≡ links_in t = first_none (λ k. not (link_good t k)) (links_in t) (λ k z. let y = h.links_are in rw (h.links k (omega arith))) in
       rw (all_devices d, le-ltb (devices_in t) (devices_in t) (omega arith), b, le-ltb (links_in t) (links_in t) (omega arith))

@@ -11,7 +11,7 @@ use lib.ListN.{length, get_or, set, length-set}
 use lib.Seq.{get_or-set_same, get_or-set_other}
 use lib.Dec.{ltb}
 use borrow.Author.Tests.{ltb-false}
-use Rattle.model.specs.Logic.{if◌then◌else◌, ◌and◌, ◌or◌}
+use Rattle.model.specs.Logic.{when◌then◌else◌, ◌and◌, ◌or◌}
 use Rattle.model.specs.State.{State}
 use Rattle.model.specs.WakeSet.{On, marked}
 use Rattle.model.proofs.Basics.{by_if, or_cases, or_left, or_right}
@@ -72,7 +72,7 @@ module _ (ms : List Bool) (p : ℕ) (l : p < length ms) (on : Bool) where
       ]
 
   -- the lowest mark is p where the test holds and p is lower, else the one before
-  pub adds_chosen : (low : ℕ) → Adds (Chosen on p) ms low (set ms p (on or marked ms p)) (if on and ltb p low then p else low)
+  pub adds_chosen : (low : ℕ) → Adds (Chosen on p) ms low (set ms p (on or marked ms p)) (when on and ltb p low then p else low)
   adds_chosen low =
       record {
         long = length-set ms p (on or marked ms p);
@@ -91,7 +91,7 @@ module _ (ms : List Bool) (p : ℕ) (l : p < length ms) (on : Bool) where
       }
 
 -- the same as the code has it: the row of q, and the number that was chosen
-pub adds_mark : {ms : List Bool} {on v : Bool} {q at low r : ℕ} → at ≡ q → at < length ms → v ≡ (on or marked ms at) → (if on and ltb q low then q else low) ≡ r →
+pub adds_mark : {ms : List Bool} {on v : Bool} {q at low r : ℕ} → at ≡ q → at < length ms → v ≡ (on or marked ms at) → (when on and ltb q low then q else low) ≡ r →
     Adds (Chosen on q) ms low (set ms at v) r
 adds_mark {ms} {on} {q} {low = low} row fits stored chosen = rw (stored, row, ← chosen) (adds_chosen ms q (rw row at fits) on low)
 

@@ -7,7 +7,7 @@ use Prim.Native.Nat.{ℕ, ◌+◌, ◌*◌, ◌≤◌}
 use lib.ListN.{length}
 use borrow.Author.Tests.{eq-eqb, ne_eqb}
 use Rattle.model.specs.Limits.{DEVICES, LINKS}
-use Rattle.model.specs.Logic.{if◌then◌else◌}
+use Rattle.model.specs.Logic.{when◌then◌else◌}
 use Rattle.model.proofs.Basics.{never}
 use Rattle.replay_text.specs.declared.line.Line.{Line}
 use Rattle.replay_text.specs.Line.{line_of}
@@ -24,11 +24,11 @@ use Rattle.write_program.proofs.Making.{found, good, becomes}
 -- ---- the line of a refusal
 module _ (r : Refusal) {n i : ℕ} {l : Line} (number : n ≡ r.number) (index : i ≡ r.index) where
   pub in_no_line : r.line ≡ 0 → l ≡ line_of (nowhere_text n i) → l ≡ refusal_line r
-  unfolding refusal_line if◌then◌else◌
+  unfolding refusal_line when◌then◌else◌
   in_no_line z e = rw (eq-eqb r.line 0 z, ← number, ← index) e
 
   pub in_a_line : (r.line ≡ 0 → ⊥) → l ≡ line_of (refused_text n i r.line) → l ≡ refusal_line r
-  unfolding refusal_line if◌then◌else◌
+  unfolding refusal_line when◌then◌else◌
   in_a_line z e = rw (ne_eqb r.line 0 z, ← number, ← index) e
 
 -- ---- an end, by the variant

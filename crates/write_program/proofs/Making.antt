@@ -8,7 +8,7 @@ use native.Mathlib.Decide.{ℕ_discrete}
 use lib.ListN.{length, take, drop, length-append}
 use lib.Seq.{take_at}
 use borrow.Author.Tests.{ne_eqb}
-use Rattle.model.specs.Logic.{if◌then◌else◌}
+use Rattle.model.specs.Logic.{when◌then◌else◌}
 use Rattle.model.specs.Limits.{DEVICES, LINKS}
 use Rattle.model.specs.Table.{TableAnswer}
 use Rattle.model.specs.Writing.{table_of, Writing, written}
@@ -40,7 +40,7 @@ pub no_table : {A : Type 0} {m : Made} {s : ℕ} → m ≡ Written s → is_tabl
 no_table e f = never (ap is_table e) f
 
 refusal_no_table : (text : List ℕ) (a : TableAnswer) (size : ℕ) → (a.number ≡ 0 → ⊥) → is_table (made_from text a size) ≡ false
-unfolding made_from if◌then◌else◌
+unfolding made_from when◌then◌else◌
 refusal_no_table text a size n = rw (ne_eqb a.number 0 n)
 
 -- ---- a text that has become a table of that size

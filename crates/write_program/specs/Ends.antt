@@ -1,6 +1,6 @@
 -- What the program `write` hands to the C library, and how it ends. Assumes nothing.
 use Rattle.std.specs.Prelude.{◌≡◌, List, ◌⊎◌, ℕ, ◌≤◌, eqb, length, take}
-use Rattle.model.specs.Logic.{if◌then◌else◌}
+use Rattle.model.specs.Logic.{when◌then◌else◌}
 use Rattle.model.specs.Writing.{table_of, lists_answer}
 use Rattle.replay_text.specs.declared.line.Line.{Line}
 use Rattle.replay_text.specs.Line.{line_of}
@@ -27,7 +27,7 @@ pub record TableFor (text table : List ℕ) : Type 0 where
 -- the line of a refusal, with the line of the list where there is one
 unfoldable pub refusal_line : Refusal → Line
 refusal_line r =
-    if eqb r.line 0 then line_of (nowhere_text r.number r.index)
+    when eqb r.line 0 then line_of (nowhere_text r.number r.index)
     else line_of (refused_text r.number r.index r.line)
 
 -- where a table is made, it stands at the front of the buffer

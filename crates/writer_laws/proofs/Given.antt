@@ -10,7 +10,7 @@ use lib.Seq.{get_or-append-add}
 use lib.Dec.{ltb, eqb}
 use borrow.Author.Tests.{ltb-false, le-ltb, not-true, not-false, eq-eqb, eqb-true}
 use Rattle.model.specs.Limits.{DEVICES, LINKS}
-use Rattle.model.specs.Logic.{if◌then◌else◌}
+use Rattle.model.specs.Logic.{when◌then◌else◌}
 use Rattle.model.specs.Table.{TableAnswer, parent_good, ends_good}
 use Rattle.model.proofs.Basics.{by_if, never, few_devices_lem}
 use Rattle.model.proofs.Logic.{tests}
@@ -27,7 +27,7 @@ pub record Given (devices links : List ℕ) : Type 0 where
 
 -- ---- the lists are answered 0 exactly there
 pub given_good : {devices links : List ℕ} → Given devices links → lists_answer devices links ≡ record { number = 0; index = 0 }
-unfolding lists_answer faulty_device faulty_link if◌then◌else◌
+unfolding lists_answer faulty_device faulty_link when◌then◌else◌
 given_good {devices} {links} h =
     let n = devices_given devices in
     let m = links_given links in
@@ -58,7 +58,7 @@ good_given devices links =
 -- ---- and where there is room, the table is written
 pub given_writes : {devices links : List ℕ} → Given devices links → (buffer : List ℕ) → length (table_of devices links) ≤ length buffer
     → write_of devices links buffer ≡ written (table_of devices links) buffer
-unfolding write_of if◌then◌else◌
+unfolding write_of when◌then◌else◌
 given_writes {devices} {links} h buffer l = rw (given_good h, le-ltb (length buffer) (length (table_of devices links)) l)
 
 pub writes_given : (devices links buffer : List ℕ) → (write_of devices links buffer).answer.number ≡ 0

@@ -10,7 +10,7 @@ use native.Mathlib.Decide.{dec_lt, ℕ_discrete}
 use lib.ListN.{length, get_or, take, drop, length-drop}
 use lib.Seq.{length-take-le, get_or-take, get_or-drop, ext_get_or}
 use borrow.Author.Tests.{eqb-true, ne_eqb}
-use Rattle.model.specs.Logic.{if◌then◌else◌, ◌or◌}
+use Rattle.model.specs.Logic.{when◌then◌else◌, ◌or◌}
 use Rattle.model.specs.Table.{Wiring, wiring_in, devices_in, links_in, device_byte, link_byte, mark_good, version_good, limits_good, length_good, ends_good, before, device_good, link_fits, ascends, link_good}
 use Rattle.model.proofs.Basics.{few_devices_lem}
 use Rattle.model.proofs.Logic.{tests}
@@ -94,7 +94,7 @@ module _ (t : List ℕ) (h : Rules t) where
   head_bytes = let m = simp tests at h.mark in let v = simp tests at h.version in (m.0, m.1.0, m.1.1, omega arith, omega arith)
 
   digit_listed : (k field : ℕ) → k < links_in t → field < 3 → field_of (listed t k) field ≡ link_byte t field k
-  unfolding field_of listed pair_in if◌then◌else◌
+  unfolding field_of listed pair_in when◌then◌else◌
   digit_listed k zero l f = let b = bytes k l in (digits (link_byte t 0 k) (link_byte t 1 k) (link_byte t 2 k) b.byte0 b.byte1 b.byte2).0
   digit_listed k (suc zero) l f = let b = bytes k l in (digits (link_byte t 0 k) (link_byte t 1 k) (link_byte t 2 k) b.byte0 b.byte1 b.byte2).1
   digit_listed k (suc (suc zero)) l f = let b = bytes k l in (digits (link_byte t 0 k) (link_byte t 1 k) (link_byte t 2 k) b.byte0 b.byte1 b.byte2).2

@@ -7,7 +7,7 @@ use native.Mathlib.Omega.{arith}
 use native.Mathlib.Decide.{dec_lt}
 use lib.ListN.{length}
 use borrow.Author.Tests.{eq-eqb, ne_eqb}
-use Rattle.model.specs.Logic.{if◌then◌else◌, ◌and◌, ◌or◌}
+use Rattle.model.specs.Logic.{when◌then◌else◌, ◌and◌, ◌or◌}
 use Rattle.model.specs.Table.{devices_in, links_in, device_byte, link_byte, mark_good, version_good, limits_good, length_good, ends_good, before, device_good, link_fits, ascends, link_good}
 use Rattle.model.proofs.Logic.{tests}
 use Rattle.model.specs.Writing.{devices_given, links_given, device_field, link_field, counts_good, pair, number, in_order, field_of, table_of}
@@ -49,7 +49,7 @@ module _ {devices links : List ℕ} (h : Given devices links) where
 
   -- a link that stands at place k by its number stands there with all its bytes
   same_link : (i k : ℕ) → i < links_given links → k < links_given links → number links i ≡ in_order (number links) (links_given links) k → SameBytes links i (table_of devices links) k
-  unfolding field_of number pair if◌then◌else◌
+  unfolding field_of number pair when◌then◌else◌
   same_link i k a b e =
       let z = link_bytes_lem h i a in
       let d = digits (link_field links 0 i) (link_field links 1 i) (link_field links 2 i) z.0 z.1 z.2 in

@@ -7,7 +7,7 @@ use native.Mathlib.Omega.{arith}
 use lib.ListN.{length}
 use borrow.Author.Tests.{ltb-false, le-ltb, not-false, eq-eqb}
 use Rattle.model.specs.Limits.{DEVICES, LINKS}
-use Rattle.model.specs.Logic.{if◌then◌else◌, first}
+use Rattle.model.specs.Logic.{when◌then◌else◌, first}
 use Rattle.model.specs.Table.{TableAnswer, devices_in, links_in, mark_good, version_good, limits_good, length_good, device_good, link_good, bad_device, bad_link, entries_answer, table_answer, wiring_in}
 use Rattle.model.proofs.Basics.{by_if, first_least, first_none}
 use Rattle.model.proofs.Logic.{tests}
@@ -36,7 +36,7 @@ pub good_all : (good : ℕ → Bool) (n : ℕ) → ((p : ℕ) → p < n → good
 good_all good n h = first_none (λ p. not (good p)) n (λ j l. rw (h j l))
 
 pub facts_taken : {t : List ℕ} → Rules t → table_answer t ≡ record { number = 0; index = 0 }
-unfolding table_answer entries_answer bad_device bad_link if◌then◌else◌
+unfolding table_answer entries_answer bad_device bad_link when◌then◌else◌
 facts_taken {t} h =
     let n = devices_in t in
     let m = links_in t in
@@ -86,7 +86,7 @@ unfolding load_of
 taken_rules t e = taken_facts t e
 
 loaded_state : (t : List ℕ) → Taken t → (load_of t).state ≡ loaded (wiring_in t)
-unfolding load_of if◌then◌else◌
+unfolding load_of when◌then◌else◌
 loaded_state t e = rw (eq-eqb (table_answer t).number 0 e)
 
 pub wiring_is : (t : List ℕ) → Taken t → wiring t ≡ wiring_in t

@@ -3,7 +3,7 @@
 use mathlib.Core.Path.{sym, ◌∙◌}
 use borrow.Author.Tests.{not-true, not-false}
 use mir.Facts.{to_z-of_z}
-use Rattle.model.specs.Logic.{if◌then◌else◌}
+use Rattle.model.specs.Logic.{when◌then◌else◌}
 use Rattle.saved_write.proofs.Saving.{saved_room, saved_written}
 use Rattle.c_calls.specs.Numbers.{answered}
 use Rattle.c_calls.proofs.Calling.{load_refused, load_saved, loaded_sound}
@@ -17,7 +17,7 @@ returns-then-fault-ne0 c =
 
 -- too little room
 pub returns-then-not-keep : goal.returns-then-not-keep
-unfolding answered if◌then◌else◌
+unfolding answered when◌then◌else◌
 returns-then-not-keep c =
     let gave = c.load-loaded.ensures in
     let taken = sym c.number-fault.ensures ∙ c.if-fault-ne0.false in
@@ -26,7 +26,7 @@ returns-then-not-keep c =
 
 -- taken
 pub returns : goal.returns
-unfolding answered if◌then◌else◌
+unfolding answered when◌then◌else◌
 returns c =
     let gave = c.load-loaded.ensures in
     let taken = sym c.number-fault.ensures ∙ c.if-fault-ne0.false in

@@ -1,6 +1,6 @@
 -- One exit for the path of kinds 6, 7 and 8 and one for each other kind: its promise is the model's line of the kind. Assumes nothing.
 use mathlib.Core.Path.{sym, ◌∙◌}
-use Rattle.model.specs.Logic.{if◌then◌else◌}
+use Rattle.model.specs.Logic.{when◌then◌else◌}
 use Rattle.model.specs.Steps.{request}
 use Rattle.memory.specs.Layout.{state_in}
 use Rattle.request_hold.proofs.Chained.{enable_stays, disable_stays, get_stays, put_stays}
@@ -16,50 +16,50 @@ returns-then-both c =
 
 -- enable
 pub returns-in-1 : goal.returns-in-1
-unfolding request if◌then◌else◌
+unfolding request when◌then◌else◌
 returns-in-1 c =
     let done = c.enable.ensures in
     record { is = λ g h l. rw (c.in-1.is, c.finished.ensures) (done _); stays = λ f. enable_stays ((let a = c.args in state_in a.bytes.now a.words.now)) _ _ _ (done _) }
 
 -- disable
 pub returns-in-2 : goal.returns-in-2
-unfolding request if◌then◌else◌
+unfolding request when◌then◌else◌
 returns-in-2 c =
     let done = c.disable.ensures in
     record { is = λ g h l. rw (c.in-2.is, c.finished-in-2.ensures) (done _); stays = λ f. disable_stays ((let a = c.args in state_in a.bytes.now a.words.now)) _ _ _ (done _) }
 
 -- get
 pub returns-in-3 : goal.returns-in-3
-unfolding request if◌then◌else◌
+unfolding request when◌then◌else◌
 returns-in-3 c =
     let done = c.get.ensures in
     record { is = λ g h l. rw (c.in-3.is, c.finished-in-3.ensures) (done _); stays = λ f. get_stays ((let a = c.args in state_in a.bytes.now a.words.now)) _ _ _ (done _) }
 
 -- get and wake
 pub returns-in-4 : goal.returns-in-4
-unfolding request if◌then◌else◌
+unfolding request when◌then◌else◌
 returns-in-4 c = record { is = λ g h l. rw c.in-4.is (c.get_wake.ensures.is h l); stays = c.get_wake.ensures.stays }
 
 -- put
 pub returns-in-5 : goal.returns-in-5
-unfolding request if◌then◌else◌
+unfolding request when◌then◌else◌
 returns-in-5 c =
     let done = c.put.ensures in
     record { is = λ g h l. rw (c.in-5.is, c.finished-in-5.ensures) (done _); stays = λ f. put_stays ((let a = c.args in state_in a.bytes.now a.words.now)) _ _ _ (done _) }
 
 -- wake
 pub returns-in-9 : goal.returns-in-9
-unfolding request if◌then◌else◌
+unfolding request when◌then◌else◌
 returns-in-9 c = record { is = λ g h l. rw c.in-9.is (c.wake.ensures.is h l); stays = c.wake.ensures.stays }
 
 -- set active
 pub returns-in-10 : goal.returns-in-10
-unfolding request if◌then◌else◌
+unfolding request when◌then◌else◌
 returns-in-10 c = record { is = λ g h l. rw c.in-10.is (c.set_active.ensures.is h l); stays = c.set_active.ensures.stays }
 
 -- set suspended
 pub returns-in-11 : goal.returns-in-11
-unfolding request if◌then◌else◌
+unfolding request when◌then◌else◌
 returns-in-11 c = record { is = λ g h l. rw c.in-11.is (c.set_suspended.ensures.is h l); stays = c.set_suspended.ensures.stays }
 
 -- ignore children: none of the other kinds

@@ -1,7 +1,7 @@
 -- `replay_report::callback` meets its contract. Assumes nothing.
 use native.Mathlib.Omega.{arith}
 use borrow.Author.Tests.{ne_eqb}
-use Rattle.model.specs.Logic.{if◌then◌else◌}
+use Rattle.model.specs.Logic.{when◌then◌else◌}
 use Rattle.replay_text.specs.Text.{ascii}
 use Rattle.replay_report.specs.Lines.{callback_text}
 use Rattle.replay_text.proofs.Adding.{holds_start, holds_word, holds_field}
@@ -9,14 +9,14 @@ use Rattle.replay_report.proofs.callback.Goals as goal
 
 -- none open
 pub returns-in-0 : goal.returns-in-0
-unfolding ascii callback_text if◌then◌else◌
+unfolding ascii callback_text when◌then◌else◌
 returns-in-0 c =
     let h = holds_start c.start.ensures in
     rw c.in-0.is (holds_word (ascii "callback none\n") h c.word.ensures (omega arith)).line
 
 -- suspend
 pub returns-in-1 : goal.returns-in-1
-unfolding ascii callback_text if◌then◌else◌
+unfolding ascii callback_text when◌then◌else◌
 returns-in-1 c =
     let h = holds_start c.start-in-1.ensures in
     let g = holds_field (ascii "callback suspend ") c.args.asked h c.long8.ensures c.field.ensures (omega arith) in
@@ -24,7 +24,7 @@ returns-in-1 c =
 
 -- resume
 pub returns-in-2 : goal.returns-in-2
-unfolding ascii callback_text if◌then◌else◌
+unfolding ascii callback_text when◌then◌else◌
 returns-in-2 c =
     let args = c.args in
     let h = holds_start c.start-in-2.ensures in
@@ -34,7 +34,7 @@ returns-in-2 c =
 
 -- idle
 pub returns-in-3 : goal.returns-in-3
-unfolding ascii callback_text if◌then◌else◌
+unfolding ascii callback_text when◌then◌else◌
 returns-in-3 c =
     let h = holds_start c.start-in-3.ensures in
     let g = holds_field (ascii "callback idle ") c.args.asked h c.long8-in-3.ensures c.field-in-3.ensures (omega arith) in
@@ -42,7 +42,7 @@ returns-in-3 c =
 
 -- of a bench that is not sound
 pub returns-in_default : goal.returns-in_default
-unfolding ascii callback_text if◌then◌else◌
+unfolding ascii callback_text when◌then◌else◌
 returns-in_default c =
     let n = c.in_default.in_default-own.rest in
     let h = holds_start c.start-in_default.ensures in

@@ -1,5 +1,5 @@
 -- The depth read is the one of the definition; a byte is at most the limit. Assumes nothing.
-use Rattle.model.specs.Logic.{if◌then◌else◌}
+use Rattle.model.specs.Logic.{when◌then◌else◌}
 use native.Mathlib.Omega.{arith}
 use borrow.Author.Tests.{eq-eqb, ne_eqb}
 use Rattle.model.specs.Limits.{MAXDEPTH}
@@ -8,14 +8,14 @@ use Rattle.request_hold.proofs.disable.Goals as goal
 
 -- the depth is at its limit
 pub returns-then-d-ge-MAX_DEPTH : goal.returns-then-d-ge-MAX_DEPTH
-unfolding disable if◌then◌else◌
+unfolding disable when◌then◌else◌
 returns-then-d-ge-MAX_DEPTH c =
     let read = c.depth-d in
     λ words. rw (← read.ensures, eq-eqb read.result MAXDEPTH (omega arith))
 
 -- it rises by 1
 pub returns : goal.returns
-unfolding disable if◌then◌else◌
+unfolding disable when◌then◌else◌
 returns c =
     let read = c.depth-d in
     λ words. rw (c.set_depth.ensures, ← read.ensures, ne_eqb read.result MAXDEPTH (λ z. omega arith))

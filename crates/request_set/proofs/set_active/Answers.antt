@@ -1,5 +1,5 @@
 -- Each exit is one test of the definition; the last is a law over states (Downs.antt). Assumes nothing.
-use Rattle.model.specs.Logic.{◌or◌, if◌then◌else◌}
+use Rattle.model.specs.Logic.{◌or◌, when◌then◌else◌}
 use mathlib.Core.Path.{refl, sym, ◌∙◌, ap}
 use Rattle.memory.specs.Ready.{fixed}
 use Rattle.counts.proofs.Turning.{turned_on}
@@ -9,18 +9,18 @@ use Rattle.request_set.proofs.set_active.Goals as goal
 
 -- its status cannot be set
 pub returns-then-running : goal.returns-then-running
-unfolding set_active if◌then◌else◌
+unfolding set_active when◌then◌else◌
 returns-then-running c = record { is = λ h l. rw (← c.running.ensures, c.if-running.true, c.finished.ensures); stays = λ f. refl }
 
 -- its parent is down
 pub returns-then-parent_down : goal.returns-then-parent_down
-unfolding set_active if◌then◌else◌ ◌or◌
+unfolding set_active when◌then◌else◌ ◌or◌
 returns-then-parent_down c =
     record { is = λ h l. rw (← c.running.ensures, c.if-running.false, ← c.parent_down.ensures, c.if-parent_down.true, c.finished-then-parent_down.ensures); stays = λ f. refl }
 
 -- a supplier is down
 pub returns-then-supplier_down : goal.returns-then-supplier_down
-unfolding set_active if◌then◌else◌ ◌or◌
+unfolding set_active when◌then◌else◌ ◌or◌
 returns-then-supplier_down c =
     record {
       is =

@@ -1,5 +1,5 @@
 -- Each exit is one test of the definition; the last is a law over states (Downs.antt). Assumes nothing.
-use Rattle.model.specs.Logic.{if◌then◌else◌}
+use Rattle.model.specs.Logic.{when◌then◌else◌}
 use mathlib.Core.Path.{refl, sym, ◌∙◌, ap}
 use Rattle.memory.specs.Ready.{fixed}
 use Rattle.counts.proofs.Turning.{turned_on}
@@ -9,12 +9,12 @@ use Rattle.request_set.proofs.set_suspended.Goals as goal
 
 -- its status cannot be set
 pub returns-then-running : goal.returns-then-running
-unfolding set_suspended if◌then◌else◌
+unfolding set_suspended when◌then◌else◌
 returns-then-running c = record { is = λ h l. rw (← c.running.ensures, c.if-running.true, c.finished.ensures); stays = λ f. refl }
 
 -- it is needed
 pub returns-then-needed : goal.returns-then-needed
-unfolding set_suspended if◌then◌else◌
+unfolding set_suspended when◌then◌else◌
 returns-then-needed c =
     record { is = λ h l. rw (← c.running.ensures, c.if-running.false, ← c.needed.ensures, c.if-needed.true, c.finished-then-needed.ensures); stays = λ f. refl }
 

@@ -1,6 +1,6 @@
 -- The callback is closed first; what follows goes on from that state, which is ready too. Assumes nothing.
 use mathlib.Core.Path.{◌∙◌}
-use Rattle.model.specs.Logic.{if◌then◌else◌}
+use Rattle.model.specs.Logic.{when◌then◌else◌}
 use borrow.Author.Tests.{eq-eqb, ne_eqb}
 use Rattle.model.specs.Steps.{idle_result}
 use Rattle.memory.proofs.Readiness.{long, ready_closed, callback_stays, stays_full}
@@ -8,7 +8,7 @@ use Rattle.request_suspend.proofs.idle_result.Goals as goal
 
 -- any value but 0 finishes the request
 pub returns-then-v-ne0 : goal.returns-then-v-ne0
-unfolding idle_result if◌then◌else◌
+unfolding idle_result when◌then◌else◌
 returns-then-v-ne0 c =
     record {
       is = λ h l. rw (c.set_callback.ensures _ (long _ _ h.ready), ne_eqb _ _ c.if-v-ne0.true, c.finished.ensures);
@@ -17,7 +17,7 @@ returns-then-v-ne0 c =
 
 -- 0 goes on to suspending
 pub returns : goal.returns
-unfolding idle_result if◌then◌else◌
+unfolding idle_result when◌then◌else◌
 returns c =
     record {
       is =

@@ -1,7 +1,7 @@
 -- `keeper_bench::Bench::take` meets its contract: a bench that passes the test is sound, so the index is that of its links, and the record
 -- leads where the model's does. Assumes nothing.
 use borrow.Author.Tests.{not-false}
-use Rattle.model.specs.Logic.{if◌then◌else◌}
+use Rattle.model.specs.Logic.{when◌then◌else◌}
 use Rattle.model.specs.Methods.{requested}
 use Rattle.model.proofs.Chains.{passed, failed}
 use Rattle.links.proofs.Keeping.{sound_indexed}
@@ -9,12 +9,12 @@ use Rattle.keeper_bench.proofs.Bench.take.Goals as goal
 
 -- the bench is not sound
 pub returns-then-not-sound : goal.returns-then-not-sound
-unfolding requested if◌then◌else◌
+unfolding requested when◌then◌else◌
 returns-then-not-sound c = record { is = rw (failed c.sound.ensures.test c.if-not-sound.true-raw) }
 
 -- the record is taken
 pub returns : goal.returns
-unfolding requested if◌then◌else◌
+unfolding requested when◌then◌else◌
 returns c =
     let v = c.sound.ensures in
     let h = v.sound (not-false _ c.if-not-sound.false-raw) in

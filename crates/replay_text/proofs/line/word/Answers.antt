@@ -7,13 +7,13 @@ use lib.ListN.{length}
 use lib.Seq.{paste-zero, paste-suc, take-length}
 use borrow.Author.Rules.{rules}
 use borrow.Author.Tests.{le-leb, lt-leb}
-use Rattle.model.specs.Logic.{if◌then◌else◌}
+use Rattle.model.specs.Logic.{when◌then◌else◌}
 use Rattle.replay_text.specs.Line.{added}
 use Rattle.replay_text.proofs.line.word.Goals as goal
 
 -- the line says that it has more text than room
 pub returns-then-used-gt-ROOM : goal.returns-then-used-gt-ROOM
-unfolding added if◌then◌else◌
+unfolding added when◌then◌else◌
 returns-then-used-gt-ROOM c =
     let start = c.args in
     let h : 256 < start.line.used + length start.text.now = omega arith in
@@ -21,7 +21,7 @@ returns-then-used-gt-ROOM c =
 
 -- the word does not fit
 pub returns-then-text-used : goal.returns-then-text-used
-unfolding added if◌then◌else◌
+unfolding added when◌then◌else◌
 returns-then-text-used c =
     let start = c.args in
     let h : 256 < start.line.used + length start.text.now = omega arith in
@@ -44,7 +44,7 @@ loop-i-preserved c =
 
 -- the word is copied
 pub returns : goal.returns
-unfolding added if◌then◌else◌
+unfolding added when◌then◌else◌
 returns c =
     let start = c.args in
     let at = c.loop-i in
