@@ -23,7 +23,7 @@ fn keep(bench: Bench, state: &mut [u8]) -> bool
 // Load a table into state bytes: the table's own number is tested first, then 8, too little room.
 #[unsafe(no_mangle)]
 pub extern "C" fn keeper_load(table: &[u8], state: &mut [u8]) -> i32
-    ensures* { λ r. ⌜ record { result = r; state = state.new } ≡ load_bytes table.now state.old ⌝ }
+    ensures { record { result = result; state = state.new } ≡ load_bytes table.now state.old }
 {
     let loaded = keeper::load(table);
     let answer = loaded.answer;
@@ -41,8 +41,8 @@ pub extern "C" fn keeper_load(table: &[u8], state: &mut [u8]) -> i32
 // Feed a piece of log against state bytes: 21, 22 and 23 are tested in this order. What is answered is the count of replies.
 #[unsafe(no_mangle)]
 pub extern "C" fn keeper_feed(state: &mut [u8], piece: &[u8], replies: &mut [u8]) -> i32
-    ensures* { λ r. ⌜ record { result = r; state = state.new; replies = replies.new }
-        ≡ feed_bytes state.old (record { bytes = piece.now; buffer = replies.old }) ⌝ }
+    ensures { record { result = result; state = state.new; replies = replies.new }
+        ≡ feed_bytes state.old (record { bytes = piece.now; buffer = replies.old }) }
 {
     let fed = keeper::feed(bench_in(state), piece, replies);
     let answer = fed.answer;

@@ -1,6 +1,8 @@
 // Single records, and the questions on a bench: the cases stand in `stdin`, a test script.
 #![tactic(auto)]
 
-fn main() {
-    test_script::run();
+use std::io;
+
+fn main(rt: HostRuntime) -> io::Result<()> {
+    test_script::run(&rt)
 }

@@ -5,6 +5,7 @@ use keeper_bench::Bench;
 use keeper_bench::methods::{Outcome, Requested};
 use memory::{BYTES, WORDS};
 use record_kinds::Record;
+use std::io;
 use test_words::{name_in, number_in};
 
 // One record by the dispatch.
@@ -51,18 +52,19 @@ fn set_byte(bytes: &mut [u8; BYTES], k: usize, line: &[u8]) {
 }
 
 // A cell of the words: of a device column, or the number of links.
-fn set_word(words: &mut [u32; WORDS], k: usize, line: &[u8]) {
+fn set_word(rt: &impl Print, words: &mut [u32; WORDS], k: usize, line: &[u8]) -> io::Result<()> {
     let row = number_in(line, 2) as usize;
     let v = number_in(line, 3);
     match k {
         11..=13 => memory::set_word_at(words, k - 11, row, v),
         14 => memory::set_links(words, v),
-        _ => say(texts::NO_FIELD),
+        _ => say(rt, texts::NO_FIELD)?,
     }
+    Ok(())
 }
 
 // A cell changed by hand: `set FIELD ROW VALUE`. The fields of a page are named in the order of the pages.
-pub fn set(b: Bench, line: &[u8]) -> Bench {
+pub fn set(rt: &impl Print, b: Bench, line: &[u8]) -> io::Result<Bench> {
     let mut bytes = b.bytes;
     let mut words = b.words;
     let k = name_in(
@@ -73,10 +75,10 @@ pub fn set(b: Bench, line: &[u8]) -> Bench {
     if k < 11 {
         set_byte(&mut bytes, k, line);
     } else {
-        set_word(&mut words, k, line);
+        set_word(rt, &mut words, k, line)?;
     }
-    Bench {
+    Ok(Bench {
         bytes: bytes,
         words: words,
-    }
+    })
 }

@@ -33,6 +33,7 @@ mod texts;
 
 use keeper_bench::Bench;
 use show::pick;
+use std::io;
 use test_words::name_in;
 use texts::{NOTHING, say};
 
@@ -69,14 +70,14 @@ fn slot(line: &[u8]) -> usize {
 }
 
 // What is kept under the name; what is at hand where there is none.
-fn kept(play: Play, slots: Slots, line: &[u8]) -> Play {
+fn kept(rt: &impl Print, play: Play, slots: Slots, line: &[u8]) -> io::Result<Play> {
     let all = slots.all;
     let s = slot(line);
     if SLOTS <= s {
-        say(texts::NO_NAME);
-        return play;
+        say(rt, texts::NO_NAME)?;
+        return Ok(play);
     }
-    all[s]
+    Ok(all[s])
 }
 
 // What is at hand kept under the name.
@@ -93,12 +94,12 @@ fn saved(play: Play, slots: Slots, line: &[u8]) -> Slots {
     Slots { all: all }
 }
 
-fn compare(play: Play, other: Play) -> Play {
+fn compare(rt: &impl Print, play: Play, other: Play) -> io::Result<Play> {
     let bench = test_same::same(play.bench, other.bench);
     let replies = play.replies == other.replies;
-    say(pick(bench, texts::SAME, texts::DIFFERENT));
-    say(pick(replies, texts::SAME_REPLIES, texts::OTHER_REPLIES));
-    play
+    say(rt, pick(bench, texts::SAME, texts::DIFFERENT))?;
+    say(rt, pick(replies, texts::SAME_REPLIES, texts::OTHER_REPLIES))?;
+    Ok(play)
 }
 
 fn fresh(bench: Bench) -> Play {
@@ -108,35 +109,35 @@ fn fresh(bench: Bench) -> Play {
     }
 }
 
-fn set(play: Play, line: &[u8]) -> Play {
-    Play {
-        bench: hand::set(play.bench, line),
+fn set(rt: &impl Print, play: Play, line: &[u8]) -> io::Result<Play> {
+    Ok(Play {
+        bench: hand::set(rt, play.bench, line)?,
         replies: play.replies,
-    }
+    })
 }
 
 // The commands that only tell.
-fn told(play: Play, k: usize, line: &[u8]) -> Play {
+fn told(rt: &impl Print, play: Play, k: usize, line: &[u8]) -> io::Result<Play> {
     let bench = play.bench;
     match k {
-        19 => tell::state(bench, hand::byte_in(line, 1)),
-        20 => tell::ask(bench, line),
-        21 => tell::wakes(bench, hand::byte_in(line, 1)),
-        _ => say(texts::NO_COMMAND),
+        19 => tell::state(rt, bench, hand::byte_in(line, 1))?,
+        20 => tell::ask(rt, bench, line)?,
+        21 => tell::wakes(rt, bench, hand::byte_in(line, 1))?,
+        _ => say(rt, texts::NO_COMMAND)?,
     }
-    play
+    Ok(play)
 }
 
 // The commands on one bench, with the bytes that stand in the line.
-fn done(play: Play, k: usize, line: &[u8], s: &[u8]) -> Play {
+fn done(rt: &impl Print, play: Play, k: usize, line: &[u8], s: &[u8]) -> io::Result<Play> {
     match k {
-        1..=13 => record::named(play, k, line),
-        14 => record::raw(play, s),
-        15 => piece::feed(play, test_words::number_in(line, 1), s),
-        16 => fresh(tell::table(s)),
-        17 => fresh(keeper::empty()),
-        18 => set(play, line),
-        _ => told(play, k, line),
+        1..=13 => record::named(rt, play, k, line),
+        14 => record::raw(rt, play, s),
+        15 => piece::feed(rt, play, test_words::number_in(line, 1), s),
+        16 => Ok(fresh(tell::table(rt, s)?)),
+        17 => Ok(fresh(keeper::empty())),
+        18 => set(rt, play, line),
+        _ => told(rt, play, k, line),
     }
 }
 
@@ -152,16 +153,16 @@ fn read(count: usize) -> usize
 
 // The same, with the bytes read: they stand after the first word, in a line of `feed` after the second. A command that needs bytes is
 // not done where they cannot be read.
-fn act(play: Play, k: usize, line: &[u8]) -> Play {
-    let mut s = io::large_buffer();
+fn act(rt: &impl Print, play: Play, k: usize, line: &[u8]) -> io::Result<Play> {
+    let mut s = [0u8; 65536];
     let from = pick(k == 15, 2, 1);
     let count = test_words::bytes_in(line, from, &mut s);
     if (65536 < count) & (13 < k) & (k < 17) {
-        say(texts::NO_BYTES);
-        return play;
+        say(rt, texts::NO_BYTES)?;
+        return Ok(play);
     }
     let n = read(count);
-    done(play, k, line, &s[0..n])
+    done(rt, play, k, line, &s[0..n])
 }
 
 const SAVE: usize = 22;
@@ -176,63 +177,64 @@ fn number(line: &[u8]) -> usize {
 }
 
 // A line that is a command.
-fn command(play: Play, slots: Slots, line: &[u8]) -> Play {
+fn command(rt: &impl Print, play: Play, slots: Slots, line: &[u8]) -> io::Result<Play> {
     let k = number(line);
     match k {
-        22 => kept_name(play, line),
-        23 => kept(play, slots, line),
-        24 => compare(play, kept(play, slots, line)),
-        _ => act(play, k, line),
+        22 => kept_name(rt, play, line),
+        23 => kept(rt, play, slots, line),
+        24 => compare(rt, play, kept(rt, play, slots, line)?),
+        _ => act(rt, play, k, line),
     }
 }
 
 // A name to keep a bench under is one of those that there are.
-fn kept_name(play: Play, line: &[u8]) -> Play {
-    say(pick(slot(line) < SLOTS, NOTHING, texts::NO_NAME));
-    play
+fn kept_name(rt: &impl Print, play: Play, line: &[u8]) -> io::Result<Play> {
+    say(rt, pick(slot(line) < SLOTS, NOTHING, texts::NO_NAME))?;
+    Ok(play)
 }
 
-fn end_line() {
-    show::text(b"\n");
+fn end_line(rt: &impl Print) -> io::Result<()> {
+    show::text(rt, b"\n")
 }
 
 // A line: a note, a title, or a command and its answer.
-fn line(play: Play, slots: Slots, s: &[u8]) -> Play {
+fn line(rt: &impl Print, play: Play, slots: Slots, s: &[u8]) -> io::Result<Play> {
     let first = test_words::byte_at(s, 0);
     if (first == 0) | (first == b';') {
-        return play;
+        return Ok(play);
     }
-    show::text(s);
+    show::text(rt, s)?;
     if first == b'#' {
-        end_line();
-        return play;
+        end_line(rt)?;
+        return Ok(play);
     }
-    let next = command(play, slots, s);
-    end_line();
-    next
+    let next = command(rt, play, slots, s)?;
+    end_line(rt)?;
+    Ok(next)
 }
 
 // Every line of a script.
-fn lines(s: &[u8]) {
+fn lines(rt: &impl Print, s: &[u8]) -> io::Result<()> {
     let mut play = fresh(keeper::empty());
     let mut slots = Slots { all: [play; SLOTS] };
     let mut at: usize = 0;
     while at < s.len() {
         let end = test_words::scan(s, at, b'\n', true);
         let one = &s[at..end];
-        play = line(play, slots, one);
+        play = line(rt, play, slots, one)?;
         slots = saved(play, slots, one);
         if s.len() <= end {
-            return;
+            return Ok(());
         }
         at = end + 1;
     }
+    Ok(())
 }
 
 // The script of standard input. It is read whole, so it has to be shorter than the buffer.
-pub fn run() {
-    let mut text = io::large_buffer();
-    let n = io::read_full(libc::STDIN_FILENO, &mut text);
-    say(pick(n < 65536, NOTHING, texts::TOO_LONG));
-    lines(&text[..n]);
+pub fn run(rt: &(impl Input + Print)) -> io::Result<()> {
+    let mut text = [0u8; 65536];
+    let n = test_words::read_input(rt, &mut text)?;
+    say(rt, pick(n < 65536, NOTHING, texts::TOO_LONG))?;
+    lines(rt, &text[..n])
 }

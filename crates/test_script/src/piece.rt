@@ -9,6 +9,7 @@ use keeper::Fed;
 use keeper_bench::Bench;
 use memory::BYTES;
 use record_answer::Answer;
+use std::io;
 use test_words::byte_at;
 
 // What a buffer for replies holds before.
@@ -37,71 +38,76 @@ fn reply_at(s: &[u8], at: usize) -> u32
 }
 
 // A reply that stood so often.
-fn stood(reply: u32, times: u64) {
-    say(texts::COMMA);
-    show::four(reply);
+fn stood(rt: &impl Print, reply: u32, times: u64) -> io::Result<()> {
+    say(rt, texts::COMMA)?;
+    show::four(rt, reply)?;
     if 1 < times {
-        show::field(texts::TIMES, times);
+        show::field(rt, texts::TIMES, times)?;
     }
+    Ok(())
 }
 
 // Reply k. Where the same follows it is counted, otherwise written with how often it stood.
-fn counted(s: &[u8], k: u16, times: u64) -> u64 {
+fn counted(rt: &impl Print, s: &[u8], k: u16, times: u64) -> io::Result<u64> {
     let at = 4 * wide(k);
     let one = reply_at(s, at);
     if one == reply_at(s, at + 4) {
-        return std::num::wrapping_add_u64(times, 1);
+        return Ok(times.wrapping_add(1));
     }
-    stood(one, times);
-    1
+    stood(rt, one, times)?;
+    Ok(1)
 }
 
 // So many replies, mixed with those before them. After the last of them stand marks.
-fn replies(s: &[u8], n: u16, before: u64) -> u64 {
+fn replies(rt: &impl Print, s: &[u8], n: u16, before: u64) -> io::Result<u64> {
     let mut all = before;
     let mut times: u64 = 1;
     let mut k: u16 = 0;
     while k < n {
-        times = counted(s, k, times);
+        times = counted(rt, s, k, times)?;
         all = mixed(all, reply_at(s, 4 * wide(k)));
         k += 1;
     }
-    all
+    Ok(all)
 }
 
 // Tells an answer: how many replies, none for a refusal.
-fn count(answer: Answer) -> u16 {
+fn count(rt: &impl Print, answer: Answer) -> io::Result<u16> {
     let number = record_answer::number(answer);
     let replies = record_answer::count(answer);
     if number == 0 {
-        show::field(texts::TAKEN, long16(replies));
+        show::field(rt, texts::TAKEN, long16(replies))?;
     } else {
-        show::field(texts::REFUSED, long8(number));
+        show::field(rt, texts::REFUSED, long8(number))?;
     }
-    replies
+    Ok(replies)
 }
 
 // How many bytes are carried, and the three places for them.
-fn carried<'a>(bytes: &'a [u8; BYTES]) {
+fn carried(rt: &impl Print, bytes: &[u8; BYTES]) -> io::Result<()> {
     let used = memory::used(bytes);
-    show::field(texts::CARRIED, used as u64);
+    show::field(rt, texts::CARRIED, used as u64)?;
     if used != 0 {
-        show::byte(memory::carried(bytes, 0) as u32);
-        show::byte(memory::carried(bytes, 1) as u32);
-        show::byte(memory::carried(bytes, 2) as u32);
+        show::byte(rt, memory::carried(bytes, 0) as u32)?;
+        show::byte(rt, memory::carried(bytes, 1) as u32)?;
+        show::byte(rt, memory::carried(bytes, 2) as u32)?;
     }
+    Ok(())
 }
 
 // What a piece leaves: the bytes carried, and whether the bench stayed.
-fn left(before: Bench, after: Bench) {
-    carried(&after.bytes);
-    say(pick(test_same::same(before, after), texts::STAYED, NOTHING));
+fn left(rt: &impl Print, before: Bench, after: Bench) -> io::Result<()> {
+    carried(rt, &after.bytes)?;
+    say(
+        rt,
+        pick(test_same::same(before, after), texts::STAYED, NOTHING),
+    )
 }
 
 // Whether the buffer after so many replies stayed.
-fn rest(buffer: &[u8], n: u16) {
+fn rest(rt: &impl Print, buffer: &[u8], n: u16) -> io::Result<()> {
     let end = test_words::scan(buffer, 4 * wide(n), MARK, false);
-    say(pick(end < buffer.len(), texts::CHANGED, texts::KEPT));
+    say(rt, pick(end < buffer.len(), texts::CHANGED, texts::KEPT))
 }
 
 fn within(x: usize, most: usize) -> usize
@@ -121,23 +127,23 @@ fn pour(b: Bench, piece: &[u8], room: usize, buffer: &mut [u8]) -> Fed {
 }
 
 // What a piece gave.
-fn told(play: Play, f: Fed, buffer: &[u8]) -> Play {
+fn told(rt: &impl Print, play: Play, f: Fed, buffer: &[u8]) -> io::Result<Play> {
     let answer = f.answer;
     let after = f.bench;
-    let n = count(answer);
-    let all = replies(buffer, n, play.replies);
-    left(play.bench, after);
-    rest(buffer, n);
-    Play {
+    let n = count(rt, answer)?;
+    let all = replies(rt, buffer, n, play.replies)?;
+    left(rt, play.bench, after)?;
+    rest(rt, buffer, n)?;
+    Ok(Play {
         bench: after,
         replies: all,
-    }
+    })
 }
 
 // A piece, with so many bytes of buffer.
-pub fn feed(play: Play, room: u32, piece: &[u8]) -> Play {
-    let mut buffer = io::large_buffer();
-    show::field(texts::PIECE, piece.len() as u64);
+pub fn feed(rt: &impl Print, play: Play, room: u32, piece: &[u8]) -> io::Result<Play> {
+    let mut buffer = [0u8; 65536];
+    show::field(rt, texts::PIECE, piece.len() as u64)?;
     let f = pour(play.bench, piece, room as usize, &mut buffer);
-    told(play, f, &buffer)
+    told(rt, play, f, &buffer)
 }

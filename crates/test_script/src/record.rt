@@ -5,6 +5,7 @@ use crate::{Play, hand, mixed, show, texts};
 use keeper_bench::Bench;
 use keeper_bench::methods::{Outcome, Requested};
 use record_kinds::Record;
+use std::io;
 use test_words::{byte_at, number_in};
 
 // By the method of its kind. A kind that has no method, or a value that its method does not take, goes to the dispatch.
@@ -51,66 +52,70 @@ fn devices(b: Bench) -> u8 {
 }
 
 // The state of device p that a record leaves.
-fn left(b: Bench, p: u8) {
+fn left(rt: &impl Print, b: Bench, p: u8) -> io::Result<()> {
     if p < devices(b) {
-        show::field(texts::LEFT, p as u64);
-        show::state(b, p);
+        show::field(rt, texts::LEFT, p as u64)?;
+        show::state(rt, b, p)?;
     }
+    Ok(())
 }
 
 // A reply, and whether the dispatch gives the same and leaves the same bench.
-fn replied(q: Requested, p: u8, other: Requested) {
+fn replied(rt: &impl Print, q: Requested, p: u8, other: Requested) -> io::Result<()> {
     let outcome = q.outcome;
     let second = other.outcome;
     let b = q.bench;
     let x = reply(outcome);
     let same = (x == reply(second)) & test_same::same(b, other.bench);
-    show::four(x);
-    left(b, p);
-    say(pick(same, NOTHING, texts::DIFFER));
+    show::four(rt, x)?;
+    left(rt, b, p)?;
+    say(rt, pick(same, NOTHING, texts::DIFFER))
 }
 
 // What a record is answered.
-fn told(b: Bench, r: Record, q: Requested) {
+fn told(rt: &impl Print, b: Bench, r: Record, q: Requested) -> io::Result<()> {
     let outcome = q.outcome;
-    say(texts::GIVEN);
-    show::four(packed(r.kind, r.device, r.value));
-    say(texts::ANSWERED);
+    say(rt, texts::GIVEN)?;
+    show::four(rt, packed(r.kind, r.device, r.value))?;
+    say(rt, texts::ANSWERED)?;
     if reply(outcome) == 21 {
-        say(texts::UNSOUND);
+        say(rt, texts::UNSOUND)?;
     } else {
-        replied(q, r.device, hand::dispatched(b, r));
+        replied(rt, q, r.device, hand::dispatched(b, r))?;
     }
-    say(pick(test_same::same(b, q.bench), texts::STAYED, NOTHING));
+    say(
+        rt,
+        pick(test_same::same(b, q.bench), texts::STAYED, NOTHING),
+    )
 }
 
 // One record.
-fn one(play: Play, r: Record) -> Play {
+fn one(rt: &impl Print, play: Play, r: Record) -> io::Result<Play> {
     let before = play.bench;
     let q = requested(before, r);
-    told(before, r, q);
+    told(rt, before, r, q)?;
     let outcome = q.outcome;
     let after = q.bench;
-    Play {
+    Ok(Play {
         bench: after,
         replies: mixed(play.replies, reply(outcome)),
-    }
+    })
 }
 
 // A record by its kind, its device and its value, if these are numbers.
-pub fn named(play: Play, kind: usize, line: &[u8]) -> Play {
+pub fn named(rt: &impl Print, play: Play, kind: usize, line: &[u8]) -> io::Result<Play> {
     let device = number_in(line, 1);
     let value = number_in(line, 2);
     if (255 < device) | (65535 < value) {
-        say(texts::NO_NUMBER);
-        return play;
+        say(rt, texts::NO_NUMBER)?;
+        return Ok(play);
     }
     let r = Record {
         kind: (kind % 256) as u8,
         device: (device % 256) as u8,
         value: (value % 65536) as u16,
     };
-    one(play, r)
+    one(rt, play, r)
 }
 
 fn word(low: u8, high: u8) -> u16 {
@@ -118,15 +123,15 @@ fn word(low: u8, high: u8) -> u16 {
 }
 
 // A record by its bytes, if they are four.
-pub fn raw(play: Play, s: &[u8]) -> Play {
+pub fn raw(rt: &impl Print, play: Play, s: &[u8]) -> io::Result<Play> {
     if s.len() != 4 {
-        say(texts::NO_BYTES);
-        return play;
+        say(rt, texts::NO_BYTES)?;
+        return Ok(play);
     }
     let r = Record {
         kind: byte_at(s, 0),
         device: byte_at(s, 1),
         value: word(byte_at(s, 2), byte_at(s, 3)),
     };
-    one(play, r)
+    one(rt, play, r)
 }

@@ -4,6 +4,7 @@ use crate::texts::say;
 use keeper_answers::NumberAnswer;
 use keeper_bench::Bench;
 use memory::{BYTES, WORDS};
+use std::io;
 
 // An answer from here on is a refusal: its number is what is over.
 pub const REFUSAL: u32 = 65536;
@@ -11,22 +12,22 @@ pub const REFUSAL: u32 = 65536;
 // The place of no names.
 pub const NUMBER: usize = 0;
 
-pub fn text(s: &[u8]) {
-    io::write_all(libc::STDOUT_FILENO, s);
+pub fn text(rt: &impl Print, s: &[u8]) -> io::Result<()> {
+    rt.write_all(s)
 }
 
 // Text k of some, a line each; none past the last.
-pub fn nth(texts: &[u8], k: usize) {
+pub fn nth(rt: &impl Print, texts: &[u8], k: usize) -> io::Result<()> {
     let w = test_words::word(texts, k, b'\n');
     let start = w.start;
     let stop = w.stop;
-    text(&texts[start..stop]);
+    text(rt, &texts[start..stop])
 }
 
 // A text and a number.
-pub fn field(k: usize, x: u64) {
-    say(k);
-    io::print_decimal(libc::STDOUT_FILENO, x);
+pub fn field(rt: &impl Print, k: usize, x: u64) -> io::Result<()> {
+    say(rt, k)?;
+    rt.print(x)
 }
 
 // One of two places.
@@ -38,18 +39,18 @@ pub fn pick(first: bool, a: usize, b: usize) -> usize {
 }
 
 // A byte in hexadecimal, after a blank.
-pub fn byte(x: u32) {
-    say(texts::BLANK);
-    say(texts::DIGIT + (x / 16 % 16) as usize);
-    say(texts::DIGIT + (x % 16) as usize);
+pub fn byte(rt: &impl Print, x: u32) -> io::Result<()> {
+    say(rt, texts::BLANK)?;
+    say(rt, texts::DIGIT + (x / 16 % 16) as usize)?;
+    say(rt, texts::DIGIT + (x % 16) as usize)
 }
 
 // The four bytes of a record or a reply, the lowest first.
-pub fn four(x: u32) {
-    byte(x);
-    byte(x / 256);
-    byte(x / 65536);
-    byte(x / 16777216);
+pub fn four(rt: &impl Print, x: u32) -> io::Result<()> {
+    byte(rt, x)?;
+    byte(rt, x / 256)?;
+    byte(rt, x / 65536)?;
+    byte(rt, x / 16777216)
 }
 
 // The answer to a question, by its number: a refusal's above REFUSAL, or what is told.
@@ -62,63 +63,67 @@ pub fn told(code: u64) -> u32 {
 }
 
 // An answer: the number of the refusal, or what was asked for, by name where there are names.
-pub fn answer(names: usize, x: u32) {
+pub fn answer(rt: &impl Print, names: usize, x: u32) -> io::Result<()> {
     if REFUSAL <= x {
-        field(texts::NOT_TOLD, (x - REFUSAL) as u64);
-        return;
+        return field(rt, texts::NOT_TOLD, (x - REFUSAL) as u64);
     }
     if names == NUMBER {
-        field(texts::BLANK, x as u64);
-        return;
+        return field(rt, texts::BLANK, x as u64);
     }
-    say(names % 128 + (x % 4) as usize);
+    say(rt, names % 128 + (x % 4) as usize)
 }
 
 // A count of a device, as the question tells it.
-fn count(k: usize, a: NumberAnswer) {
-    say(k);
-    answer(NUMBER, told(keeper_answers::number_code(a)));
+fn count(rt: &impl Print, k: usize, a: NumberAnswer) -> io::Result<()> {
+    say(rt, k)?;
+    answer(rt, NUMBER, told(keeper_answers::number_code(a)))
 }
 
 // The open callback, if there is one.
-fn callback(kind: u8, asked: u8, target: u8) {
+fn callback(rt: &impl Print, kind: u8, asked: u8, target: u8) -> io::Result<()> {
     if kind == 0 {
-        return;
+        return Ok(());
     }
-    say(texts::OPEN);
-    say(texts::CALLBACK + (kind % 4) as usize);
-    field(texts::OF, asked as u64);
-    field(texts::FOR, target as u64);
+    say(rt, texts::OPEN)?;
+    say(rt, texts::CALLBACK + (kind % 4) as usize)?;
+    field(rt, texts::OF, asked as u64)?;
+    field(rt, texts::FOR, target as u64)
 }
 
 // The cells of device p that no question tells, and the open callback.
-fn cells<'a>(bytes: &'a [u8; BYTES], words: &'a [u32; WORDS], p: u8) {
+fn cells(rt: &impl Print, bytes: &[u8; BYTES], words: &[u32; WORDS], p: u8) -> io::Result<()> {
     let error = memory_rows::error(words, p);
-    field(texts::DEPTH, memory_rows::depth(bytes, p) as u64);
+    field(rt, texts::DEPTH, memory_rows::depth(bytes, p) as u64)?;
     field(
+        rt,
         pick(error == 0, texts::ERROR, texts::NEGATIVE),
         error as u64,
-    );
-    say(pick(
-        memory_rows::ignore(bytes, p) == 0,
-        texts::NOTHING,
-        texts::IGNORES,
-    ));
+    )?;
+    say(
+        rt,
+        pick(
+            memory_rows::ignore(bytes, p) == 0,
+            texts::NOTHING,
+            texts::IGNORES,
+        ),
+    )?;
     callback(
+        rt,
         memory::callback(bytes),
         memory::asked(bytes),
         memory::target(bytes),
-    );
+    )
 }
 
 // The state of device p, and the open callback.
-pub fn state(b: Bench, p: u8) {
+pub fn state(rt: &impl Print, b: Bench, p: u8) -> io::Result<()> {
     answer(
+        rt,
         texts::SUSPENDED,
         told(keeper_answers::status_code(keeper_questions::status_of(b, p))),
-    );
-    count(texts::USAGE, keeper_questions::usage_count(b, p));
-    count(texts::CHILDREN, keeper_questions::child_count(b, p));
-    count(texts::HOLDS, keeper_questions::user_holds(b, p));
-    cells(&b.bytes, &b.words, p);
+    )?;
+    count(rt, texts::USAGE, keeper_questions::usage_count(b, p))?;
+    count(rt, texts::CHILDREN, keeper_questions::child_count(b, p))?;
+    count(rt, texts::HOLDS, keeper_questions::user_holds(b, p))?;
+    cells(rt, &b.bytes, &b.words, p)
 }

@@ -5,50 +5,51 @@ use crate::texts::say;
 use crate::{show, texts};
 use basics::{both, long8, long16};
 use keeper_bench::Bench;
+use std::io;
 use table::{Answer, index, number};
 use test_words::name_in;
 
 // A table that is taken: what the bench holds.
-fn taken(b: Bench) {
-    show::field(texts::LOADED, memory::devices(&b.bytes) as u64);
-    show::field(texts::LINKS, memory::links(&b.words) as u64);
+fn taken(rt: &impl Print, b: Bench) -> io::Result<()> {
+    show::field(rt, texts::LOADED, memory::devices(&b.bytes) as u64)?;
+    show::field(rt, texts::LINKS, memory::links(&b.words) as u64)
 }
 
-fn refused(answer: Answer, b: Bench) {
-    show::field(texts::TURNED_AWAY, long8(number(answer)));
-    show::field(texts::INDEX, long16(index(answer)));
+fn refused(rt: &impl Print, answer: Answer, b: Bench) -> io::Result<()> {
+    show::field(rt, texts::TURNED_AWAY, long8(number(answer)))?;
+    show::field(rt, texts::INDEX, long16(index(answer)))?;
     let empty = test_same::same(b, keeper::empty());
-    say(pick(empty, texts::EMPTY, texts::NOT_EMPTY));
+    say(rt, pick(empty, texts::EMPTY, texts::NOT_EMPTY))
 }
 
 // A table loaded.
-pub fn table(t: &[u8]) -> Bench {
+pub fn table(rt: &impl Print, t: &[u8]) -> io::Result<Bench> {
     let loaded = keeper::load(t);
     let answer = loaded.answer;
     let bench = loaded.bench;
     if number(answer) == 0 {
-        taken(bench);
+        taken(rt, bench)?;
     } else {
-        refused(answer, bench);
+        refused(rt, answer, bench)?;
     }
-    bench
+    Ok(bench)
 }
 
 // The state of a device.
-pub fn state(b: Bench, p: u8) {
-    show::field(texts::STATE, p as u64);
-    show::state(b, p);
+pub fn state(rt: &impl Print, b: Bench, p: u8) -> io::Result<()> {
+    show::field(rt, texts::STATE, p as u64)?;
+    show::state(rt, b, p)
 }
 
 // Question k about device p: the answer as a number.
-fn asked(b: Bench, k: usize, p: u8, q: u8) -> u32 {
+fn asked(rt: &impl Print, b: Bench, k: usize, p: u8, q: u8) -> io::Result<u32> {
     match k {
-        0 => show::told(keeper_answers::status_code(keeper_questions::status_of(b, p))),
-        1 => show::told(keeper_answers::number_code(keeper_questions::user_holds(b, p))),
-        2 => show::told(keeper_answers::number_code(keeper_questions::usage_count(b, p))),
-        3 => show::told(keeper_answers::number_code(keeper_questions::child_count(b, p))),
-        4 => show::told(keeper_answers::number_code(keeper_questions::parents_above(b, p))),
-        _ => wakes_with(b, p, q),
+        0 => Ok(show::told(keeper_answers::status_code(keeper_questions::status_of(b, p)))),
+        1 => Ok(show::told(keeper_answers::number_code(keeper_questions::user_holds(b, p)))),
+        2 => Ok(show::told(keeper_answers::number_code(keeper_questions::usage_count(b, p)))),
+        3 => Ok(show::told(keeper_answers::number_code(keeper_questions::child_count(b, p)))),
+        4 => Ok(show::told(keeper_answers::number_code(keeper_questions::parents_above(b, p)))),
+        _ => wakes_with(rt, b, p, q),
     }
 }
 
@@ -61,42 +62,44 @@ fn recursion_differs(b: Bench, p: u8, q: u8, told: u32) -> bool {
 }
 
 // Whether q is in the wake set of p, by the question; the recursion is asked beside it.
-fn wakes_with(b: Bench, p: u8, q: u8) -> u32 {
+fn wakes_with(rt: &impl Print, b: Bench, p: u8, q: u8) -> io::Result<u32> {
     let told = show::told(keeper_answers::member_code(keeper_questions::in_wake_set(b, p, q)));
     let other = recursion_differs(b, p, q, told);
-    say(pick(other, texts::OTHER_WAY, texts::NOTHING));
-    told
+    say(rt, pick(other, texts::OTHER_WAY, texts::NOTHING))?;
+    Ok(told)
 }
 
 // A question.
-pub fn ask(b: Bench, line: &[u8]) {
+pub fn ask(rt: &impl Print, b: Bench, line: &[u8]) -> io::Result<()> {
     let k = name_in(b"status holds usage children above wake", line, 1);
     if 5 < k {
-        say(texts::NO_QUESTION);
-        return;
+        return say(rt, texts::NO_QUESTION);
     }
     let names = pick(k == 5, texts::NO, show::NUMBER);
-    say(texts::ANSWER);
+    say(rt, texts::ANSWER)?;
     show::answer(
+        rt,
         pick(k == 0, texts::SUSPENDED, names),
-        asked(b, k, byte_in(line, 2), byte_in(line, 3)),
-    );
+        asked(rt, b, k, byte_in(line, 2), byte_in(line, 3))?,
+    )
 }
 
 // Device q, where an answer says that it is a member.
-fn member(x: u32, q: u8) {
+fn member(rt: &impl Print, x: u32, q: u8) -> io::Result<()> {
     if x == 1 {
-        show::field(texts::BLANK, q as u64);
+        show::field(rt, texts::BLANK, q as u64)?;
     }
+    Ok(())
 }
 
 // The wake set of device p.
-pub fn wakes(b: Bench, p: u8) {
+pub fn wakes(rt: &impl Print, b: Bench, p: u8) -> io::Result<()> {
     let n = memory::devices(&b.bytes);
     let mut q: u8 = 0;
-    say(texts::ANSWER);
+    say(rt, texts::ANSWER)?;
     while q < n {
-        member(asked(b, 5, p, q), q);
+        member(rt, asked(rt, b, 5, p, q)?, q)?;
         q += 1;
     }
+    Ok(())
 }

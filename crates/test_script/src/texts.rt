@@ -1,21 +1,29 @@
 // The texts that are written, in groups of 32: each constant is the place of one.
 use crate::show::nth;
+use std::io;
 
-pub fn say(k: usize) {
+pub fn say(rt: &impl Print, k: usize) -> io::Result<()> {
     match k / 32 {
         0 => nth(
+            rt,
             b": NO NAME\n: NO COMMAND\n: NO FIELD\n: NO BYTES\n: NO NUMBER\n: NO QUESTION\nSCRIPT TOO LONG\n: same\n: DIFFERENT\n, replies same\n, replies different\n: taken, devices \n, links \n: refused \n, index \n, empty bench\n, NOT EMPTY",
             k % 32,
         ),
         1 => nth(
+            rt,
             b":\n ->\n 21\n; METHOD AND DISPATCH DIFFER\n; bench as before\n: piece \n, taken \n, refused \n,\n *\n; carried \n; BUFFER CHANGED\n; rest as before",
             k % 32,
         ),
         2 => nth(
+            rt,
             b": device \n; device \n usage\n children\n holds\n depth \n error \n error -\n ignores children\n, open\n of \n for \n:\n refused \n \n none\n suspend\n resume\n idle\n suspended\n resuming\n active\n suspending\n no\n yes\n RECURSION DIFFERS",
             k % 32,
         ),
-        _ => nth(b"0\n1\n2\n3\n4\n5\n6\n7\n8\n9\nA\nB\nC\nD\nE\nF", k % 32),
+        _ => nth(
+            rt,
+            b"0\n1\n2\n3\n4\n5\n6\n7\n8\n9\nA\nB\nC\nD\nE\nF",
+            k % 32,
+        ),
     }
 }
 

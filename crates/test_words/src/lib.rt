@@ -1,11 +1,13 @@
 // The words of a line of a test script, and what they stand for: numbers, bytes, names.
 #![tactic(auto)]
 
-ghost use Rattle.std.specs.Prelude.{◌≡◌, true, ◌+◌, ◌*◌, ◌%◌, ◌<◌, ◌≤◌, length, get_or, drop};
+ghost use Rattle.std.specs.Prelude.{◌≡◌, true, ◌+◌, ◌*◌, ◌%◌, ◌<◌, ◌≤◌, IfOk, length, get_or, drop};
 ghost use Rattle.test_words.specs.Words.{stops, Scanned, Word, word_in, Placed};
 ghost use Rattle.test_words.specs.Numbers.{digit_of, joined, value_after, minus, number_of, hex_byte, all_hex};
 
 use basics::word8;
+use std::io;
+use std::io::Read;
 
 // What stands for a number that cannot be read: one more than the greatest.
 pub const WRONG: u32 = 65536;
@@ -308,4 +310,20 @@ pub fn bytes_in(line: &[u8], k: usize, out: &mut [u8]) -> usize {
         j += 1;
     }
     at
+}
+
+// Standard input, read from the start of a buffer until it ends or the buffer is full: how many bytes there are.
+pub fn read_input(rt: &impl Input, out: &mut [u8]) -> io::Result<usize>
+    ensures { IfOk result (λ n. n ≤ length out.new) }
+{
+    let mut reader = rt.reader();
+    let mut done: usize = 0;
+    while done < out.len() {
+        let n = reader.read(&mut out[done..])?;
+        if n == 0 {
+            return Ok(done);
+        }
+        done += n;
+    }
+    Ok(done)
 }

@@ -12,80 +12,79 @@ mod show;
 
 use basics::wide32;
 use show::text;
+use std::io;
 use test_words::{WRONG, number_in};
 
 // So many of the bytes are parts, if there are so many bytes.
-fn counted(bytes: &[u8], count: usize, room: usize) {
+fn counted(rt: &impl Print, bytes: &[u8], count: usize, room: usize) -> io::Result<()> {
     if bytes.len() < count {
-        text(b": NO BYTES");
-        return;
+        return text(rt, b": NO BYTES");
     }
-    attempt::attempt(bytes, count, room);
+    attempt::attempt(rt, bytes, count, room)
 }
 
 // The bytes of a line, with its two numbers, if they are numbers.
-fn numbered(line: &[u8], bytes: &[u8]) {
+fn numbered(rt: &impl Print, line: &[u8], bytes: &[u8]) -> io::Result<()> {
     let room = number_in(line, 1);
     let count = number_in(line, 2);
     if (WRONG <= room) | (WRONG <= count) {
-        text(b": NO NUMBER");
-        return;
+        return text(rt, b": NO NUMBER");
     }
-    counted(bytes, wide32(count), wide32(room));
+    counted(rt, bytes, wide32(count), wide32(room))
 }
 
 // A line of `write`: its bytes stand after the numbers. Bytes that fill their buffer may not be all.
-fn write(line: &[u8]) {
-    let mut bytes = io::large_buffer();
+fn write(rt: &impl Print, line: &[u8]) -> io::Result<()> {
+    let mut bytes = [0u8; 65536];
     let n = test_words::bytes_in(line, 3, &mut bytes);
     if 65535 < n {
-        text(b": NO BYTES");
-        return;
+        return text(rt, b": NO BYTES");
     }
-    numbered(line, &bytes[0..n]);
+    numbered(rt, line, &bytes[0..n])
 }
 
 // A line that is a command.
-fn command(line: &[u8]) {
+fn command(rt: &impl Print, line: &[u8]) -> io::Result<()> {
     if test_words::name_in(b"write", line, 0) == 0 {
-        write(line);
+        write(rt, line)
     } else {
-        text(b": NO COMMAND");
+        text(rt, b": NO COMMAND")
     }
 }
 
 // A line: a note, a title, or a command and its answer.
-fn line(s: &[u8]) {
+fn line(rt: &impl Print, s: &[u8]) -> io::Result<()> {
     let first = test_words::byte_at(s, 0);
     if (first == 0) | (first == b';') {
-        return;
+        return Ok(());
     }
-    text(s);
+    text(rt, s)?;
     if first != b'#' {
-        command(s);
+        command(rt, s)?;
     }
-    text(b"\n");
+    text(rt, b"\n")
 }
 
 // Every line of a script.
-fn lines(s: &[u8]) {
+fn lines(rt: &impl Print, s: &[u8]) -> io::Result<()> {
     let mut at: usize = 0;
     while at < s.len() {
         let end = test_words::scan(s, at, b'\n', true);
-        line(&s[at..end]);
+        line(rt, &s[at..end])?;
         if s.len() <= end {
-            return;
+            return Ok(());
         }
         at = end + 1;
     }
+    Ok(())
 }
 
 // The script is read whole, so it has to be shorter than the buffer.
-fn main() {
-    let mut script = io::large_buffer();
-    let n = io::read_full(libc::STDIN_FILENO, &mut script);
+fn main(rt: HostRuntime) -> io::Result<()> {
+    let mut script = [0u8; 65536];
+    let n = test_words::read_input(&rt, &mut script)?;
     if 65535 < n {
-        text(b"SCRIPT TOO LONG\n");
+        text(&rt, b"SCRIPT TOO LONG\n")?;
     }
-    lines(&script[..n]);
+    lines(&rt, &script[..n])
 }

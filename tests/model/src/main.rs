@@ -77,24 +77,24 @@ fn claim(line: &str) -> String {
     match words[0] {
         "load" => {
             let table = list(&bytes(words[1]));
-            format!("loadOf {table} .answer ≡ record {{ number = {}; index = {} }}", words[2], words[3])
+            format!("(load_of {table}).answer ≡ record {{ number = {}; index = {} }}", words[2], words[3])
         }
         "run" => {
             let end = &words[5..];
             let (start, log) = (list(&bytes(words[1])), list(&bytes(words[2])));
             let (replies, counts) = (list(&bytes(words[3])), list(&numbers(words[4])));
-            format!("played {} (run (loadOf {start} .state) {log}) ≡ ({replies}, {counts}, {})", field(end, "n"), state(end))
+            format!("played {} (run (load_of {start}).state {log}) ≡ ({replies}, {counts}, {})", field(end, "n"), state(end))
         }
         "from" => after(&state(&words[1..=STATE_WORDS]), words[STATE_WORDS + 1], words[STATE_WORDS + 2], &words[STATE_WORDS + 3..]),
         "sound" => {
             let verdict = if words[STATE_WORDS + 1] == "1" { "true" } else { "false" };
-            format!("soundTest {} ≡ {verdict}", state(&words[1..=STATE_WORDS]))
+            format!("sound_test {} ≡ {verdict}", state(&words[1..=STATE_WORDS]))
         }
         "feed" => {
             let [bytes_in, buffer, number, replies, left] = words[STATE_WORDS + 1..STATE_WORDS + 6] else { panic!("a piece") };
             let piece = format!("record {{ bytes = {}; buffer = {} }}", piece(bytes_in), list(&bytes(buffer)));
             let fed = format!("number = {number}; replies = {replies}; state = {}; buffer = {}", state(&words[STATE_WORDS + 6..]), list(&bytes(left)));
-            format!("feedOf {} ({piece}) ≡ record {{ {fed} }}", state(&words[1..=STATE_WORDS]))
+            format!("feed_of {} ({piece}) ≡ record {{ {fed} }}", state(&words[1..=STATE_WORDS]))
         }
         "ask" => {
             let [device, other] = words[STATE_WORDS + 1..STATE_WORDS + 3] else { panic!("two devices") };
@@ -114,7 +114,7 @@ fn claim(line: &str) -> String {
             let [devices, links, buffer, number, index, left] = words[1..] else { panic!("two lists") };
             let (devices, links, buffer) = (list(&bytes(devices)), list(&bytes(links)), list(&bytes(buffer)));
             let writing = format!("answer = record {{ number = {number}; index = {index} }}; buffer = {}", list(&bytes(left)));
-            format!("writeOf {devices} {links} {buffer} ≡ record {{ {writing} }}")
+            format!("write_of {devices} {links} {buffer} ≡ record {{ {writing} }}")
         }
         other => panic!("no such case: {other}"),
     }
@@ -123,18 +123,16 @@ fn claim(line: &str) -> String {
 fn header(texts: &[(&str, String)]) -> String {
     let mut text = String::from(concat!(
         "-- Cases of the second implementation, as claims about the definitions. Assumes nothing.\n",
-        "use mathlib.Core.Path.{_≡_, refl}\n",
-        "use mathlib.Core.Bool.{true, false}\n",
-        "use mathlib.Core.List.{List, [], _∷_}\n",
-        "use Prim.Native.Nat.{ℕ, zero, suc}\n",
-        "use Rattle·model·specs.specs.State.{State}\n",
-        "use Rattle·model·specs.specs.Steps.{Exchange, Run}\n",
-        "use Rattle·model·specs.specs.Questions.{Told, tellStatus, tellHolds, tellUsage, tellChildren, tellWake, tellAbove}\n",
-        "use Rattle·model·specs.specs.Demand3.{isGet, isPut}\n",
+        "use mathlib.Core.Path.{◌≡◌, refl}\n",
+        "use Rattle.std.specs.Prelude.{true, false, List, [], ◌∷◌, ℕ, zero, suc}\n",
+        "use Rattle.model.specs.State.{State}\n",
+        "use Rattle.model.specs.Steps.{Exchange, Run}\n",
+        "use Rattle.model.specs.Questions.{Told, tell_status, tell_holds, tell_usage, tell_children, tell_wake, tell_above}\n",
+        "use Rattle.model.specs.Demand3.{is_get, is_put}\n",
     ));
     for (file, definition) in texts {
         let names = definitions(definition).join(", ");
-        writeln!(text, "use Rattle·model·specs.specs.{file}.{{{names}}}").expect("a string takes it");
+        writeln!(text, "use Rattle.model.specs.{file}.{{{names}}}").expect("a string takes it");
     }
     text + concat!(
         "\npad : ℕ → List ℕ → List ℕ\npad zero l = []\npad (suc n) [] = 0 ∷ pad n []\npad (suc n) (a ∷ l) = a ∷ pad n l\n",
@@ -146,10 +144,10 @@ fn header(texts: &[(&str, String)]) -> String {
         "      callback = record { kind = k; asked = a; target = t };\n",
         "      carry = record { bytes = b; used = u };\n",
         "    }\n",
-        "\noutcome : Run → List ℕ × State\noutcome r = (repliesIn (r .log), r .state)\n",
-        "\ncounts : ℕ → ℕ → List Exchange → List ℕ\ncounts zero q log = []\ncounts (suc k) q log = counted isGet q log ∷ counted isPut q log ∷ counts k (suc q) log\n",
-        "\nplayed : ℕ → Run → List ℕ × List ℕ × State\nplayed n r = (repliesIn (r .log), counts n 0 (r .log), r .state)\n",
-        "\nasked : State → ℕ → ℕ → List Told\nasked s p q = tellStatus s p ∷ tellHolds s p ∷ tellUsage s p ∷ tellChildren s p ∷ tellAbove s p ∷ tellWake s p q ∷ []\n",
+        "\noutcome : Run → List ℕ × State\noutcome r = (replies_in r.log, r.state)\n",
+        "\ncounts : ℕ → ℕ → List Exchange → List ℕ\ncounts zero q log = []\ncounts (suc k) q log = counted is_get q log ∷ counted is_put q log ∷ counts k (suc q) log\n",
+        "\nplayed : ℕ → Run → List ℕ × List ℕ × State\nplayed n r = (replies_in r.log, counts n 0 r.log, r.state)\n",
+        "\nasked : State → ℕ → ℕ → List Told\nasked s p q = tell_status s p ∷ tell_holds s p ∷ tell_usage s p ∷ tell_children s p ∷ tell_above s p ∷ tell_wake s p q ∷ []\n",
     )
 }
 

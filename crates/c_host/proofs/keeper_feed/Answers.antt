@@ -11,7 +11,7 @@ use Rattle.c_host.proofs.keeper_feed.Goals as goal
 -- refused
 pub returns-then-number-ne0 : goal.returns-then-number-ne0
 returns-then-number-ne0 c =
-    rw (to_z-of_z (record { sfits = c.refused.type-inv }), c.refused.ensures, c.number-number.ensures)
+    rw (to_z-of_z (record { sfits = c.refused.type_inv }), c.refused.ensures, c.number-number.ensures)
     (feed_refused _ _ _ c.bench_in.ensures.judged c.feed-fed.ensures (λ e. c.if-number-ne0.true (c.number-number.ensures ∙ e)))
 
 -- taken
@@ -23,7 +23,7 @@ returns c =
     let sound = taken_sound _ _ _ is gave taken in
     let room = taken_room _ _ _ is gave taken in
     let written = saved_written _ _ _ sound c.keep.ensures (c.keep.ensures.room ∙ le-leb _ _ room) in
-    let many = c.count.type-inv in
+    let many = c.count.type_inv in
     let whole = given_whole c.count.result (omega arith) in
-    rw (to_z-of_z (record { sfits = c.given.type-inv }), c.given.ensures, c.long16.ensures, whole, c.count.ensures)
+    rw (to_z-of_z (record { sfits = c.given.type_inv }), c.given.ensures, c.long16.ensures, whole, c.count.ensures)
     (feed_taken _ _ _ is gave taken written)

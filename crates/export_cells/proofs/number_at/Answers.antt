@@ -36,4 +36,4 @@ returns-in-4 c = rw c.in-4.is (c.word8-in-4.ensures ∙ c.target.ensures _)
 -- how many bytes are carried
 pub returns-in_default : goal.returns-in_default
 unfolding numbers_of
-returns-in_default c = rw (last_number (omega arith) c.in-0.rest) (c.word8-in_default.ensures ∙ c.used.ensures _)
+returns-in_default c = rw (last_number (omega arith) c.in_default.in_default-own.rest) (c.word8-in_default.ensures ∙ c.used.ensures _)

@@ -64,5 +64,5 @@ pub returns-in_default : goal.returns-in_default
 unfolding with_number numbers_set
 returns-in_default c =
     let words = c.args.words.now in
-    let last = last_number (omega arith) c.in-0.rest in
+    let last = last_number (omega arith) c.in_default.in_default-own.rest in
     record { is = λ l m. rw last (rw c.low-v.ensures at (c.set_used.ensures words l)) }

@@ -1,7 +1,6 @@
 -- `record_feed::feed` meets its contract. The number of a piece follows from the soundness test and the lengths alone; a piece that is taken
 -- leads where the plain keeper leads. Assumes nothing.
 use mathlib.Core.Path.{◌≡◌, refl, sym, ◌∙◌}
-use Rattle.model.specs.State.{State}
 use Rattle.model.specs.SoundTest.{sound_test}
 use Rattle.model.proofs.Chains.{passed, failed}
 use Rattle.memory.specs.Layout.{state_in}
@@ -37,7 +36,7 @@ pub take_piece-requires : goal.take_piece-requires
 take_piece-requires c =
     let used = c.wide8-used.ensures ∙ c.used.ensures _ in
     let few = few_carried ((state_in c.args.bytes.now c.args.words.now)) (passed (soundness (goal.at.take_piece-requires c).After-sound_by) c.if-not-sound_by.false-raw) in
-    record { few = rw used few; c = c.if-piece-gt-PIECE.false; c = c.if-replies-count.false }
+    record { few = rw used few; short = c.if-piece-gt-PIECE.false; room = c.if-replies-count.false }
 
 -- taken
 pub returns : goal.returns

@@ -1,7 +1,6 @@
 -- Where bytes are carried, the first record is answered by itself, then those of the piece. Assumes nothing.
 use mathlib.Core.Path.{◌≡◌}
-use mathlib.Core.List.{List}
-use Prim.Native.Nat.{ℕ, ◌≤◌}
+use Prim.Native.Nat.{◌≤◌}
 use native.Mathlib.Omega.{arith}
 use lib.ListN.{length}
 use Rattle.record_loop.specs.Runs.{joined, Room}
@@ -72,7 +71,7 @@ answer_rest-requires c =
     let few = c.requires.few in
     let short = c.requires.short in
     let r = c.requires.room in
-    let many : length c.answer_first.new.1.1.1.1.1.0 ≡ length c.args.replies.now = search rules in
+    let many : length c.answer_first.new.replies ≡ length c.args.replies.now = search rules in
     record { within = omega arith; short = short; one = omega arith; room = omega arith }
 
 pub shape_of-replies : goal.shape_of-replies

@@ -29,7 +29,7 @@ returns c =
     let piece = c.args.piece.now in
     let out = c.args.replies.now in
     record {
-      part = c.answer_records.new.1.1.1.1.0;
+      part = c.answer_records.new.replies;
       is = λ z. rw (part_lent c.args.from piece, part_lent 4 out) at ((c.answer_records.ensures.is (rest_fits (goal.at.returns c).Start)).is z);
       back = part_back 4 out _ c.requires.one;
     }

@@ -1,11 +1,12 @@
 -- One exit for the path of kinds 6, 7 and 8 and one for each other kind: its promise is the model's line of the kind. Assumes nothing.
 use mathlib.Core.Path.{sym, ◌∙◌}
 use Rattle.model.specs.Logic.{if◌then◌else◌}
-use Rattle.model.specs.State.{State}
 use Rattle.model.specs.Steps.{request}
 use Rattle.memory.specs.Layout.{state_in}
 use Rattle.request_hold.proofs.Chained.{enable_stays, disable_stays, get_stays, put_stays}
 use Rattle.record_request.proofs.Dispatching.{line_12, sleeping, past, past_sleeping, is_last, last_allowed}
+use native.Mathlib.Omega.{arith}
+use Rattle.std.proofs.Common.{◌≢◌}
 use Rattle.record_request.proofs.request.Goals as goal
 
 -- kinds 6, 7 and 8
@@ -64,13 +65,20 @@ returns-in-11 c = record { is = λ g h l. rw c.in-11.is (c.set_suspended.ensures
 -- ignore children: none of the other kinds
 pub returns-in_default : goal.returns-in_default
 returns-in_default c =
-    let n = c.in-1.rest in
+    let n1 : c.args.kind ≢ 1 = omega arith in
+    let n2 : c.args.kind ≢ 2 = omega arith in
+    let n3 : c.args.kind ≢ 3 = omega arith in
+    let n4 : c.args.kind ≢ 4 = omega arith in
+    let n5 : c.args.kind ≢ 5 = omega arith in
+    let n9 : c.args.kind ≢ 9 = omega arith in
+    let n10 : c.args.kind ≢ 10 = omega arith in
+    let n11 : c.args.kind ≢ 11 = omega arith in
     record {
       is =
           λ g h l.
-          let four = past (past (past g.low n.0.0.0.0.0.0.0.1) n.0.0.0.0.0.0.1) n.0.0.0.0.0.1 in
-          let nine = past_sleeping _ (sym c.both.ensures ∙ c.if-both.false) (past (past four n.0.0.0.0.1) n.0.0.0.1) in
-          let twelve = is_last _ _ g (past (past (past nine n.0.0.1) n.0.1) n.1) in
+          let six = past (past (past (past (past g.low n1) n2) n3) n4) n5 in
+          let nine = past_sleeping _ (sym c.both.ensures ∙ c.if-both.false) six in
+          let twelve = is_last _ _ g (past (past (past nine n9) n10) n11) in
           line_12 _ _ _ twelve ∙ (c.ignore_children.ensures.is (last_allowed _ _ g twelve) _).is h.ready.carried;
       stays = λ f. c.ignore_children.ensures.stays _;
     }

@@ -2,6 +2,8 @@
 use Rattle.model.specs.Logic.{if◌then◌else◌}
 use borrow.Author.Tests.{ne_eqb}
 use Rattle.record_step.specs.Records.{opened_as}
+use native.Mathlib.Omega.{arith}
+use Rattle.std.proofs.Common.{◌≢◌}
 use Rattle.record_step.proofs.open_callback.Goals as goal
 
 -- none
@@ -26,6 +28,7 @@ returns-in-2 c =
 pub returns-in_default : goal.returns-in_default
 unfolding opened_as if◌then◌else◌
 returns-in_default c =
-    let n = c.in-0.rest in
-    λ words.
-    rw (← c.callback-kind.ensures words, ← c.asked-asked.ensures words, ← c.target-target.ensures words, ne_eqb _ _ n.0.0.1, ne_eqb _ _ n.0.1, ne_eqb _ _ n.1)
+    let n0 : c.callback-kind.result ≢ 0 = omega arith in
+    let n1 : c.callback-kind.result ≢ 1 = omega arith in
+    let n2 : c.callback-kind.result ≢ 2 = omega arith in
+    λ words. rw (← c.callback-kind.ensures words, ← c.asked-asked.ensures words, ← c.target-target.ensures words, ne_eqb _ _ n0, ne_eqb _ _ n1, ne_eqb _ _ n2)

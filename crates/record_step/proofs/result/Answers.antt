@@ -1,6 +1,5 @@
 -- The callback read from the memory is taken apart; each kind goes on as its own result. Assumes nothing.
 use mathlib.Core.Path.{refl, sym, ◌∙◌}
-use Rattle.model.specs.State.{State}
 use Rattle.memory.specs.Layout.{state_in}
 use Rattle.record_step.proofs.Stepping.{result_none, result_other, target_is, result_suspend, result_resume, result_idle}
 use Rattle.record_step.proofs.result.Goals as goal

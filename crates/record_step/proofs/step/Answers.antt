@@ -1,6 +1,5 @@
 -- Each exit is a law of the model's record: refused, a result, busy, or a request. Assumes nothing.
 use mathlib.Core.Path.{refl, sym, ◌∙◌}
-use Rattle.model.specs.State.{State}
 use Rattle.memory.specs.Layout.{state_in}
 use Rattle.record_step.proofs.Stepping.{well_formed, is_request, record_refused, record_result, record_busy, record_asks}
 use Rattle.record_step.proofs.step.Goals as goal

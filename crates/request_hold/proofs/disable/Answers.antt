@@ -10,12 +10,12 @@ use Rattle.request_hold.proofs.disable.Goals as goal
 pub returns-then-d-ge-MAX_DEPTH : goal.returns-then-d-ge-MAX_DEPTH
 unfolding disable if◌then◌else◌
 returns-then-d-ge-MAX_DEPTH c =
-    let read = c.depth in
+    let read = c.depth-d in
     λ words. rw (← read.ensures, eq-eqb read.result MAXDEPTH (omega arith))
 
 -- it rises by 1
 pub returns : goal.returns
 unfolding disable if◌then◌else◌
 returns c =
-    let read = c.depth in
+    let read = c.depth-d in
     λ words. rw (c.set_depth.ensures, ← read.ensures, ne_eqb read.result MAXDEPTH (λ z. omega arith))

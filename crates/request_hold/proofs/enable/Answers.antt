@@ -9,12 +9,12 @@ use Rattle.request_hold.proofs.enable.Goals as goal
 pub returns-then-d-lt1 : goal.returns-then-d-lt1
 unfolding enable if◌then◌else◌
 returns-then-d-lt1 c =
-    let read = c.depth in
+    let read = c.depth-d in
     λ words. rw (← read.ensures, eq-eqb read.result 0 (omega arith))
 
 -- it falls by 1
 pub returns : goal.returns
 unfolding enable if◌then◌else◌
 returns c =
-    let read = c.depth in
+    let read = c.depth-d in
     λ words. rw (c.set_depth.ensures, ← read.ensures, ne_eqb read.result 0 (λ z. omega arith))

@@ -9,12 +9,12 @@ use Rattle.request_hold.proofs.get.Goals as goal
 pub returns-then-h-ge-MAX_HOLDS : goal.returns-then-h-ge-MAX_HOLDS
 unfolding get if◌then◌else◌
 returns-then-h-ge-MAX_HOLDS c =
-    let read = c.holds in
+    let read = c.holds-h in
     λ bytes. rw (← read.ensures, le-leb MAXHOLDS read.result c.if-h-ge-MAX_HOLDS.true)
 
 -- they rise by 1
 pub returns : goal.returns
 unfolding get if◌then◌else◌
 returns c =
-    let read = c.holds in
+    let read = c.holds-h in
     λ bytes. rw (c.set_holds.ensures, ← read.ensures, lt-leb MAXHOLDS read.result c.if-h-ge-MAX_HOLDS.false)

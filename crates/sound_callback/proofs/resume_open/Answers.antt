@@ -1,7 +1,6 @@
 -- Each exit is a test of the chain that fails; the last has the lowest member resuming, so the target is a member. Assumes nothing.
 use mathlib.Core.Path.{sym, ◌∙◌, ap}
 use borrow.Author.Tests.{eq-eqb, ne_eqb, lt-ltb, le-ltb}
-use Rattle.model.specs.State.{State}
 use Rattle.model.specs.WakeSet.{lowest}
 use Rattle.model.specs.SoundTest.{resume_open_test}
 use Rattle.model.proofs.Chains.{and_stop, and_go}

@@ -19,5 +19,4 @@ module _ {a b : Bench} {r x y : Bool} where
       }
 
 pub returns : goal.returns
-returns c =
-    told c.both.ensures c.same-bytes.ensures c.same_words-words.ensures
+returns c = told c.both.ensures c.same-bytes.ensures c.same_words-words.ensures

@@ -1,6 +1,6 @@
 -- `test_same::same_words` meets its contract. The invariant: both have the same length, and the first k cells are equal. Assumes nothing.
-use Prim.Native.Nat.{◌-◌}
-use lib.ListN.{length}
+use Rattle.std.proofs.Common.{◌-◌, length}
+use Rattle.test_same.proofs.Comparing.{Compared}
 use Rattle.test_same.proofs.same_words.Given as goal
 
 abbrev pub invariant-loop-k : goal.invariant-loop-k

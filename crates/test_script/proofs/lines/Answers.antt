@@ -4,4 +4,4 @@ use Rattle.test_script.proofs.lines.Goals as goal
 
 -- a scan from within the script stops within it
 pub slice_bounds-one-end : goal.slice_bounds-one-end
-slice_bounds-one-end c = c.scan-end.ensures.high (omega arith)
+slice_bounds-one-end g c = c.scan-end.ensures.high (omega arith)

@@ -1,7 +1,5 @@
 -- `test_words::copies` is safe and ends: it counts the copies. Assumes nothing.
-use mathlib.Core.Path.{◌≡◌}
-use Prim.Native.Nat.{◌≤◌, ◌-◌}
-use lib.ListN.{length}
+use Rattle.std.proofs.Common.{◌≡◌, ◌-◌, ◌≤◌, length}
 use Rattle.test_words.proofs.copies.Given as goal
 
 abbrev pub invariant-loop-c : goal.invariant-loop-c

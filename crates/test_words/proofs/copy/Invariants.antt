@@ -1,7 +1,5 @@
 -- `test_words::copy` is safe and ends: it passes each byte of the group once. Assumes nothing.
-use mathlib.Core.Path.{◌≡◌}
-use Prim.Native.Nat.{◌-◌, ◌/◌}
-use lib.ListN.{length}
+use Rattle.std.proofs.Common.{◌≡◌, ◌-◌, ◌/◌, length}
 use Rattle.test_words.proofs.copy.Given as goal
 
 abbrev pub invariant-loop-k : goal.invariant-loop-k

@@ -1,7 +1,6 @@
 -- `test_words::digits` meets its contract. The invariant: the digits that are left give, after the number so far, what all of them give.
 -- Assumes nothing.
 use mathlib.Core.Path.{refl, sym, ◌∙◌}
-use Prim.Native.Nat.{◌-◌}
 use native.Mathlib.Omega.{arith}
 use Rattle.test_words.proofs.Reading.{joined_low, value_on, value_end}
 use Rattle.test_words.proofs.digits.Goals as goal

@@ -1,6 +1,5 @@
 -- `test_words::is_hex` meets its contract. The invariant: the bytes left are all digits exactly where all bytes are. Assumes nothing.
 use mathlib.Core.Path.{refl, sym, ◌∙◌}
-use Prim.Native.Nat.{◌-◌}
 use Rattle.test_words.proofs.Reading.{hex_on, hex_stop, hex_end}
 use Rattle.test_words.proofs.is_hex.Goals as goal
 

@@ -1,5 +1,4 @@
 -- `test_words::place` meets its contract. The invariant: the text is none of the names passed. Assumes nothing.
-use Prim.Native.Nat.{◌-◌}
 use native.Mathlib.Omega.{arith}
 use borrow.Author.Count.{below_more}
 use Rattle.test_words.proofs.Scanning.{denied}

@@ -1,10 +1,8 @@
 -- `test_words::scan` meets its contract. The invariant: the scan from the place reached stops where the whole scan does.
 -- Assumes nothing.
 use mathlib.Core.Path.{refl, sym, ◌∙◌}
-use Prim.Native.Nat.{◌-◌}
 use native.Mathlib.Omega.{arith}
 use native.Mathlib.Numerals.{add-one}
-use Rattle.test_words.specs.Words.{before}
 use Rattle.test_words.proofs.Scanning.{scan_here, scan_on, scan_end}
 use Rattle.test_words.proofs.scan.Goals as goal
 

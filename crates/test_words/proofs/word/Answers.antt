@@ -1,6 +1,5 @@
 -- `test_words::word` meets its contract. The invariant: word i stands where the last two scans stopped. Assumes nothing.
 use mathlib.Core.Path.{◌≡◌}
-use Prim.Native.Nat.{◌-◌}
 use native.Mathlib.Omega.{arith}
 use Rattle.test_words.proofs.Scanning.{word_first, word_next}
 use Rattle.test_words.proofs.word.Goals as goal

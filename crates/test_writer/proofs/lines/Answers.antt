@@ -5,4 +5,4 @@ use Rattle.test_writer.proofs.lines.Goals as goal
 
 -- a scan from within the script stops within it
 pub slice_bounds-line-end : goal.slice_bounds-line-end
-slice_bounds-line-end c = c.scan-end.ensures.high (omega arith)
+slice_bounds-line-end g c = c.scan-end.ensures.high (omega arith)

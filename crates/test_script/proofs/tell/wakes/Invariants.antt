@@ -3,7 +3,7 @@ use Rattle.std.proofs.Common.{◌-◌, ◌≤◌}
 use Rattle.test_script.proofs.tell.wakes.Given as goal
 
 abbrev pub invariant-loop-q : goal.invariant-loop-q
-invariant-loop-q l = l.q ≤ l.n
+invariant-loop-q g l = l.q ≤ l.n
 
 abbrev pub decreases-loop-q : goal.decreases-loop-q
-decreases-loop-q l = l.n - l.q
+decreases-loop-q g l = l.n - l.q
