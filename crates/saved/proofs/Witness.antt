@@ -16,7 +16,7 @@ use Rattle.keeper_bench.specs.declared.Bench.{Bench}
 use Rattle.keeper_bench.specs.Translate.{state_of, bench_of}
 use Rattle.keeper_bench.proofs.Translations.{sound_back_and_there}
 use Rattle.keeper.specs.Calls.{pieces}
-use Rattle.keeper.proofs.Witness.{lent, one, feed_reading}
+use Rattle.keeper.proofs.Witness.{lent, lent_mut, one, feed_reading}
 use Rattle.saved_answer.specs.declared.Saving.TheVariants.{Written}
 use Rattle.saved_answer.specs.declared.Restoring.TheVariants as restoring
 use Rattle.saved_form.specs.Form.{FORM, form}
@@ -68,7 +68,7 @@ save_met {s} h b e = let l = length-replicate {A = ℕ} FORM 0 in rw e (sym (sav
 
 abbrev save_reading : (c : SaveCall) → SaveMet c → SaveRead
 save_reading c m =
-    record { κs = ([], tt); args = (c.bench, (lent c.buffer, tt)); result = c.result; exit = (c.bench, (lent c.after, tt)); learnt = m }
+    record { κs = ([], tt); args = (c.bench, (lent_mut c.buffer, tt)); result = c.result; exit = (c.bench, (lent_mut c.after, tt)); learnt = m }
 
 saved_bytes : {s : State} → Sound s → form s ≡ take FORM (over (form s) room)
 saved_bytes {s} h = sym (take_at (form s) _ FORM (form_long h))

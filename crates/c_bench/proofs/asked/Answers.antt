@@ -41,11 +41,4 @@ returns-in-5 c = rw c.in-5.is (c.number_code-in-5.ensures ∙ ap told_code c.par
 pub returns-in_default : goal.returns-in_default
 returns-in_default c =
     let args = c.args in
-    let r = c.in-0.rest in
-    let n0 = r.0.0.0.0.0.1 in
-    let n1 = r.0.0.0.0.1 in
-    let n2 = r.0.0.0.1 in
-    let n3 = r.0.0.1 in
-    let n4 = r.0.1 in
-    let n5 = r.1 in
     c.unknown.ensures ∙ sym (ap told_code (ask_past args.question _ args.p args.q (omega arith)))

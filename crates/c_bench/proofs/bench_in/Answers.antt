@@ -22,5 +22,5 @@ returns-then-state-lt-FORM c =
 pub returns : goal.returns
 unfolding FORM BYTES WORDS ROWS LINKS restore_of bench_in
 returns c =
-    let read = c.read in
+    let read = c.read-cells in
     record { judged = read_judged _ read.result read.ensures ∙ sym (bench_in_lem c.args.state.now) }
