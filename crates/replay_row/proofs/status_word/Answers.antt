@@ -24,5 +24,5 @@ returns-in-3 c = rw c.in-3.is c.word-in-3.ensures
 pub returns-in_default : goal.returns-in_default
 unfolding ascii status_text if◌then◌else◌
 returns-in_default c =
-    let n = c.in-0.rest in
+    let n = c.in_default.in_default-own.rest in
     rw (ne_eqb _ 0 n.0.0.0.1, ne_eqb _ 1 n.0.0.1, ne_eqb _ 2 n.0.1, ne_eqb _ 3 n.1) c.word-in_default.ensures
