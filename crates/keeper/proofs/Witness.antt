@@ -7,7 +7,7 @@ use mathlib.Core.Logic.{◌⊎◌, inl, inr, ⊎_elim}
 use Prim.Native.Nat.{ℕ}
 use native.Mathlib.Omega.{arith}
 use lib.ListN.{length, take}
-use denote.Ref.{Bor}
+use denote.Ref.{Bor, MutBor}
 use Rattle.model.specs.Table.{TableAnswer, table_answer, entries_answer}
 use Rattle.model.specs.State.{State, Loaded, load_of}
 use Rattle.model.specs.Steps.{run}
@@ -71,13 +71,16 @@ one b p h =
 abbrev pub lent : List ℕ → Bor (List ℕ)
 lent x = record { ref_ptr = (0, 0); now = x }
 
+abbrev pub lent_mut : List ℕ → MutBor (List ℕ)
+lent_mut x = record { ref_ptr = (0, 0); ghost_name = 0; now = x }
+
 abbrev pub feed_reading : (c : FeedCall) → FeedMet c → FeedRead
 feed_reading c m =
     record {
       κs = ([], ([], tt));
-      args = (c.bench, (lent c.piece.bytes, (lent c.piece.buffer, tt)));
+      args = (c.bench, (lent c.piece.bytes, (lent_mut c.piece.buffer, tt)));
       result = c.result;
-      exit = (c.bench, (lent c.piece.bytes, (lent c.after, tt)));
+      exit = (c.bench, (lent c.piece.bytes, (lent_mut c.after, tt)));
       learnt = m;
     }
 

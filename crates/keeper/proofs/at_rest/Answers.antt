@@ -12,11 +12,11 @@ use Rattle.keeper.proofs.at_rest.Goals.{After-empty-fresh}
 -- the arrays of a bench have their lengths
 many_bytes : (c : After-empty-fresh) → length c.empty-fresh.result.bytes ≡ BYTES
 unfolding BYTES ROWS LINKS
-many_bytes c = let g = c.empty.type-inv in search rules
+many_bytes c = let g = c.empty-fresh.type_inv in search rules
 
 many_words : (c : After-empty-fresh) → length c.empty-fresh.result.words ≡ WORDS
 unfolding WORDS ROWS
-many_words c = let g = c.empty.type-inv in search rules
+many_words c = let g = c.empty-fresh.type_inv in search rules
 
 -- the one exit
 pub returns : goal.returns

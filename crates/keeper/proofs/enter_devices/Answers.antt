@@ -1,7 +1,6 @@
 -- `keeper::enter_devices` meets its contract. The invariant: the entries of the devices passed are stored. The measure is what is left of
 -- the devices. Assumes nothing.
 use mathlib.Core.Path.{◌≡◌, refl}
-use Prim.Native.Nat.{◌-◌}
 use native.Mathlib.Omega.{arith}
 use Rattle.keeper.proofs.Entries.{no_devices, one_device}
 use Rattle.keeper.proofs.enter_devices.Goals as goal

@@ -1,7 +1,6 @@
 -- `keeper::enter_links` meets its contract. The invariant: the entries of the links passed are stored. The measure is what is left of the
 -- links. Assumes nothing.
 use mathlib.Core.Path.{◌≡◌}
-use Prim.Native.Nat.{◌-◌}
 use native.Mathlib.Omega.{arith}
 use Rattle.keeper.proofs.Entries.{no_links, one_link}
 use Rattle.keeper.proofs.enter_links.Goals as goal

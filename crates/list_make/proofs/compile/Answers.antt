@@ -28,14 +28,14 @@ returns-then-m-gt-LINK_BYTES c =
     makes a.text.now a.table.now 0 (long_links (listed_devices a.text.now) (listed_links a.text.now) a.table.now (omega arith)) c.told-then-m-gt-LINK_BYTES.ensures (λ z. absurd (omega arith))
 
 -- where there are not, what was gathered is whole
-devices : (c : Else-m-gt-LINK_BYTES) → take c.gather-n.result c.gather.last.1.1.0 ≡ listed_devices c.args.text.now
+devices : (c : Else-m-gt-LINK_BYTES) → take c.gather-n.result c.gather-n.new.out ≡ listed_devices c.args.text.now
 devices c =
-    let g = c.gather in
+    let g = c.gather-n in
     all_there _ _ g.ensures.bytes g.ensures.buffer (let l = c.if-n-gt-DEVICE_BYTES.false in omega arith)
 
-links : (c : Else-m-gt-LINK_BYTES) → take c.gather-m.result c.gather-m.new.1.1.0 ≡ listed_links c.args.text.now
+links : (c : Else-m-gt-LINK_BYTES) → take c.gather-m.result c.gather-m.new.out ≡ listed_links c.args.text.now
 links c =
-    let g = c.gather2 in
+    let g = c.gather-m in
     all_there _ _ g.ensures.bytes g.ensures.buffer (let l = c.if-m-gt-LINK_BYTES.false in omega arith)
 
 pub slice_bounds-write-end : goal.slice_bounds-write-end

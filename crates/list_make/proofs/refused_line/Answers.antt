@@ -3,6 +3,7 @@ use mathlib.Core.Path.{◌∙◌, ap}
 use Prim.Native.Nat.{ℕ}
 use Rattle.list_text.specs.Texts.{line_number}
 use mathlib.Core.Bool.{true, false}
+use native.Mathlib.Omega.{arith}
 use Rattle.list_make.proofs.Telling.{in_device, in_link, in_neither}
 use Rattle.list_make.proofs.refused_line.Goals as goal
 
@@ -10,7 +11,7 @@ use Rattle.list_make.proofs.refused_line.Goals as goal
 pub returns-in-6 : goal.returns-in-6
 returns-in-6 c =
     let a = c.args in
-    in_device a.text.now a.number a.index c.in-6.is (c.Line-of.ensures ∙ ap (λ (k : ℕ). line_number false a.text.now k) c.wide.ensures)
+    in_device a.text.now a.number a.index c.in-6.is (c.line_of.ensures ∙ ap (λ (k : ℕ). line_number false a.text.now k) c.wide.ensures)
 
 -- 7
 pub returns-in-7 : goal.returns-in-7
@@ -21,5 +22,4 @@ returns-in-7 c =
 -- any other
 pub returns-in_default : goal.returns-in_default
 returns-in_default c =
-    let n = c.in-6.rest in
-    in_neither _ _ _ n.0.1 n.1 c.over_line.ensures
+    in_neither _ _ _ (λ z. omega arith) (λ z. omega arith) c.over_line.ensures

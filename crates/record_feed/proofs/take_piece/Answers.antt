@@ -1,11 +1,13 @@
 -- `record_feed::take_piece` meets its contract: the carried bytes are cleared, the records lead on from there, and the bytes left over are
 -- carried. Assumes nothing.
-use Rattle.memory.specs.Layout.{state_in}
+use Rattle.model.specs.Limits.{ROWS, LINKS}
+use Rattle.memory.specs.Layout.{BYTES, state_in}
 use Rattle.memory.proofs.Readiness.{ready, long}
 use Rattle.record_feed.proofs.Answering.{took}
 use Rattle.record_feed.proofs.take_piece.Goals as goal
 
 pub returns : goal.returns
+unfolding BYTES ROWS LINKS
 returns c =
     record {
       is = λ i h u.

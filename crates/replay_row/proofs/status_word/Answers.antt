@@ -1,4 +1,5 @@
 -- `replay_row::status_word` meets its contract. Assumes nothing.
+use native.Mathlib.Omega.{arith}
 use borrow.Author.Tests.{ne_eqb}
 use Rattle.model.specs.Logic.{if◌then◌else◌}
 use Rattle.replay_text.specs.Text.{ascii}
@@ -24,5 +25,5 @@ returns-in-3 c = rw c.in-3.is c.word-in-3.ensures
 pub returns-in_default : goal.returns-in_default
 unfolding ascii status_text if◌then◌else◌
 returns-in_default c =
-    let n = c.in_default.in_default-own.rest in
-    rw (ne_eqb _ 0 n.0.0.0.1, ne_eqb _ 1 n.0.0.1, ne_eqb _ 2 n.0.1, ne_eqb _ 3 n.1) c.word-in_default.ensures
+    let k = c.args.status in
+    rw (ne_eqb k 0 (λ z. omega arith), ne_eqb k 1 (λ z. omega arith), ne_eqb k 2 (λ z. omega arith), ne_eqb k 3 (λ z. omega arith)) c.word-in_default.ensures
