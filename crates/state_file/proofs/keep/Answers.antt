@@ -40,8 +40,9 @@ returns-then-number-ne0 g c =
 pub named-requires : goal.named-requires
 unfolding FORM BYTES WORDS ROWS LINKS
 named-requires g c =
+    let w = c.well_formed in
     let z = sym c.save_number-number.ensures ∙ c.if-number-ne0.false in
-    form_saved c.args.bench buffer room c.save-saving.result c.save-saving.ensures (many_bytes (goal.at.named-requires c).Start) (many_words (goal.at.named-requires c).Start) z
+    form_saved c.args.bench buffer room c.save-saving.result c.save-saving.ensures (search rules) (search rules) z
 
 -- the bench is saved, or a file fails
 pub returns : goal.returns
