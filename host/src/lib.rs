@@ -3,12 +3,14 @@
 //! file to read under another name: opening it for writing would empty what is
 //! to be read. A file to save to takes the place of what has its name.
 
+use std::env;
 use std::ffi::{OsStr, OsString};
 use std::fs;
 use std::io::{self, Write};
 use std::os::unix::fs::MetadataExt;
+use std::os::unix::process::CommandExt;
 use std::path::{Path, PathBuf};
-use std::process::ExitCode;
+use std::process::{Command, ExitCode};
 
 /// Whether two names are of one file, hard and symbolic links followed.
 fn same_file(one: &OsStr, other: &OsStr) -> bool {
@@ -103,9 +105,38 @@ impl Names<'_> {
     }
 }
 
+/// Says something on standard error. Where that cannot be written, the exit
+/// status says it alone.
+fn say(what: &str) {
+    let _ = writeln!(io::stderr(), "{what}");
+}
+
 /// The end of a program whose arguments are wrong, with what it says.
 pub fn wrong(what: &str) -> ExitCode {
-    // Where standard error cannot be written, the status says it alone.
-    let _ = writeln!(io::stderr(), "{what}");
+    say(what);
     ExitCode::from(2)
+}
+
+/// The folder of the proved programs: KEEPER_PROGRAMS, or that of this program.
+fn folder() -> io::Result<PathBuf> {
+    if let Some(folder) = env::var_os("KEEPER_PROGRAMS") {
+        return Ok(PathBuf::from(folder));
+    }
+    let mut folder = env::current_exe()?;
+    folder.pop();
+    Ok(folder)
+}
+
+/// Runs the proved program of this name in the place of this one, with the same
+/// arguments, and so with its exit status. It returns only where there is no
+/// such program, with the status of a file that cannot be opened.
+pub fn run(name: &str) -> ExitCode {
+    let error = match folder() {
+        Ok(folder) => Command::new(folder.join(name))
+            .args(env::args_os().skip(1))
+            .exec(),
+        Err(error) => error,
+    };
+    say(&format!("{name}: {error}"));
+    ExitCode::from(3)
 }

@@ -2,6 +2,6 @@
 // with.
 #![tactic(auto)]
 
-fn main() {
-    list_program::run();
+fn main(rt: HostRuntime) {
+    list_program::run(&rt);
 }

@@ -8,8 +8,9 @@ ghost use Rattle.list_program.specs.Lines.{device_line, link_line};
 
 use list_print::{link_line, part_line};
 use program_end::{End, status};
-use program_files::{print, say};
+use program_files::{arg_count, print, say};
 use replay_text::line::Line;
+use std::rt::Runtime;
 use table::Answer;
 use table_entries::{byte_at, device_byte, link_byte};
 
@@ -30,11 +31,11 @@ fn link(t: &[u8], i: u16) -> Line
 }
 
 // Prints the lines of all devices.
-fn devices(t: &[u8]) -> bool {
+fn devices(rt: &impl Runtime, t: &[u8]) -> bool {
     let n = byte_at(t, 5);
     let mut p: u8 = 0;
     while p < n {
-        if !print(b"list: ", device(t, p)) {
+        if !print(rt, b"list: ", device(t, p)) {
             return false;
         }
         p += 1;
@@ -43,11 +44,11 @@ fn devices(t: &[u8]) -> bool {
 }
 
 // Prints the lines of all links.
-fn links(t: &[u8]) -> bool {
+fn links(rt: &impl Runtime, t: &[u8]) -> bool {
     let m = byte_at(t, 6) as u16;
     let mut i: u16 = 0;
     while i < m {
-        if !print(b"list: ", link(t, i)) {
+        if !print(rt, b"list: ", link(t, i)) {
             return false;
         }
         i += 1;
@@ -56,62 +57,56 @@ fn links(t: &[u8]) -> bool {
 }
 
 // Tells that the table is refused.
-fn refuse(answer: Answer) -> End
+fn refuse(rt: &impl Runtime, answer: Answer) -> End
     ensures { (result ≡ End.Refused) ⊎ (result ≡ End.Failed) }
 {
-    if print(b"list: ", replay_report::refused(answer)) {
+    if print(rt, b"list: ", replay_report::refused(answer)) {
         return End::Refused;
     }
     End::Failed
 }
 
 // The devices, and then the links.
-fn entries(t: &[u8]) -> End
+fn entries(rt: &impl Runtime, t: &[u8]) -> End
     ensures { (result ≡ End.Done) ⊎ (result ≡ End.Failed) }
 {
-    if !devices(t) {
+    if !devices(rt, t) {
         return End::Failed;
     }
-    if !links(t) {
+    if !links(rt, t) {
         return End::Failed;
     }
     End::Done
 }
 
 // Lists a table, or tells that it is refused.
-fn list(t: &[u8]) -> End
+fn list(rt: &impl Runtime, t: &[u8]) -> End
     ensures { Listed (table_answer t.now).number result }
 {
     let answer = table::judge(t);
     let Answer::Taken = answer else {
-        return refuse(answer);
+        return refuse(rt, answer);
     };
-    entries(t)
+    entries(rt, t)
 }
 
 // Reads the table whose name is argument 1, and lists it. One that is longer than 4,096 bytes is refused with the number of its first
 // 4,096, as in `replay`.
-fn begin() -> End {
+fn begin(rt: &impl Runtime) -> End {
     let mut bytes = io::buffer();
-    let read = program_files::first_bytes(b"list: ", b"TABLE", &mut bytes);
-    if read.failed {
+    let read = program_files::first_bytes(rt, b"list: ", b"TABLE", &mut bytes);
+    if read.failed.is_some() {
         return End::Failed;
     }
     let count = read.count;
-    list(&bytes[..count])
+    list(rt, &bytes[..count])
 }
 
 // The program, and its exit status.
-pub fn run() -> u8 {
-    if os::arg_count() != 2 {
-        say(b"usage: list TABLE\n");
+pub fn run(rt: &impl Runtime) -> u8 {
+    if arg_count(rt, 3) != 2 {
+        say(rt, b"usage: list TABLE\n");
         return status(End::Wrong);
     }
-    status(begin())
-}
-
-// The same for a host, whose exit status it is.
-#[unsafe(no_mangle)]
-pub extern "C" fn list_run() -> u8 {
-    run()
+    status(begin(rt))
 }

@@ -2,7 +2,7 @@
 use mathlib.Core.Path.{◌≡◌, refl, ◌∙◌, ap}
 use mathlib.Core.Bool.{Bool, true, false}
 use mathlib.Core.List.{List, [], ◌∷◌, ◌++◌}
-use mathlib.Core.Logic.{inl, ⊎_elim}
+use mathlib.Core.Logic.{inl, inr, ⊎_elim}
 use Prim.Native.Nat.{ℕ, suc, ◌+◌, ◌*◌, ◌-◌, ◌≤◌, ◌<◌}
 use native.Mathlib.Omega.{arith}
 use native.Mathlib.Nat.{add-zero, eq-or-lt_of_le}
@@ -46,6 +46,13 @@ no_bytes false (Part a b) h = absurd (h.0 refl)
 no_bytes false (Link a b c) h = refl
 no_bytes false Large h = refl
 no_bytes false Wrong h = refl
+
+pub no_entry : (e : Entry) → ((a b : ℕ) → e ≡ Part a b → ⊥) → ((a b c : ℕ) → e ≡ Link a b c → ⊥) → OneOf (0 ∷ 3 ∷ 4 ∷ []) (tag_of the_type e)
+no_entry Nothing h g = inl refl
+no_entry (Part a b) h g = absurd (h a b refl)
+no_entry (Link a b c) h g = absurd (g a b c refl)
+no_entry Large h g = inr (inl refl)
+no_entry Wrong h g = inr (inr refl)
 
 pub none_bytes : (link : Bool) (e : Entry) → OneOf (0 ∷ 3 ∷ 4 ∷ []) (tag_of the_type e) → bytes_of link e ≡ []
 none_bytes link e h = no_bytes link e (apart (tag_of the_type e) h)

@@ -2,7 +2,7 @@
 use mathlib.Core.Path.{◌≡◌, refl, sym, ◌∙◌}
 use mathlib.Core.Bool.{Bool, true, false, not}
 use mathlib.Core.List.{List, [], ◌∷◌}
-use mathlib.Core.Logic.{⊎_elim}
+use mathlib.Core.Logic.{inl, inr, ⊎_elim}
 use Prim.Native.Nat.{ℕ, suc, ◌+◌, ◌-◌, ◌≤◌, ◌<◌}
 use native.Mathlib.Omega.{arith}
 use native.Mathlib.Numerals.{add-one}
@@ -57,6 +57,13 @@ faulting_start text = record { counted = counted_start text; rest = rw (all_left
 -- the variants of no fault
 low : (x : ℕ) → OneOf (0 ∷ 1 ∷ 2 ∷ []) x → x ≤ 2
 low x = ⊎_elim (λ e. omega arith) (⊎_elim (λ e. omega arith) (λ e. omega arith))
+
+pub no_fault : (e : Entry) → (e ≡ Large → ⊥) → (e ≡ Wrong → ⊥) → OneOf (0 ∷ 1 ∷ 2 ∷ []) (tag_of the_type e)
+no_fault Nothing h g = inl refl
+no_fault (Part a b) h g = inr (inl refl)
+no_fault (Link a b c) h g = inr (inr refl)
+no_fault Large h g = absurd (h refl)
+no_fault Wrong h g = absurd (g refl)
 
 good : (n : ℕ) (e : Entry) (es : List Entry) → tag_of the_type e ≤ 2 → fault_from n (e ∷ es) ≡ fault_from (suc n) es
 unfolding fault_from

@@ -2,6 +2,6 @@
 // status 0; `replay_program::run` gives the status that a host ends with.
 #![tactic(auto)]
 
-fn main() {
-    replay_program::run();
+fn main(rt: HostRuntime) {
+    replay_program::run(&rt);
 }

@@ -2,38 +2,47 @@
 ghost use Rattle.io.specs.Counts.{IsPrefixLen};
 
 use program_files::{File, say};
+use std::io::Error;
+use std::rt::Runtime;
 
 // Says something, after the name of the program.
-pub fn speak(resumes: bool, text: &[u8]) {
+pub fn speak(rt: &impl Eprint, resumes: bool, text: &[u8]) {
     if resumes {
-        say(b"resume: ");
+        say(rt, b"resume: ");
     } else {
-        say(b"replay: ");
+        say(rt, b"replay: ");
     }
-    say(text);
+    say(rt, text);
 }
 
-// Names a file or an argument that failed, and the reason in errno.
-pub fn complain(resumes: bool, what: &[u8]) {
+// Names a file or an argument that failed, and the reason.
+pub fn complain(rt: &(impl Eprint + Alloc), resumes: bool, what: &[u8], error: Error) {
     if resumes {
-        program_files::complain(b"resume: ", what);
+        program_files::complain(rt, b"resume: ", what, error);
     } else {
-        program_files::complain(b"replay: ", what);
+        program_files::complain(rt, b"replay: ", what, error);
     }
 }
 
 // Opens the file whose name is argument i, as `program_files::opened` does.
-pub fn opened(resumes: bool, i: usize, called: &[u8], path: &mut [u8], write: bool) -> File
+pub fn opened<R: Runtime>(
+    rt: &R,
+    resumes: bool,
+    i: usize,
+    called: &[u8],
+    path: &mut [u8],
+    write: bool,
+) -> File<R::File>
     ensures { IsPrefixLen result.length path.new }
 {
     if resumes {
-        return program_files::opened(b"resume: ", i, called, path, write);
+        return program_files::opened(rt, b"resume: ", i, called, path, write);
     }
-    program_files::opened(b"replay: ", i, called, path, write)
+    program_files::opened(rt, b"replay: ", i, called, path, write)
 }
 
 // Says that a file of replies lacks some.
-pub fn incomplete(resumes: bool, path: &[u8]) {
-    speak(resumes, path);
-    say(b": replies are not complete\n");
+pub fn incomplete(rt: &impl Eprint, resumes: bool, path: &[u8]) {
+    speak(rt, resumes, path);
+    say(rt, b": replies are not complete\n");
 }

@@ -1,40 +1,43 @@
 // What is written to standard output.
 use keeper_bench::Bench;
+use program_files::{say, within};
 use replay_pieces::lines;
 use replay_pieces::turn::Progress;
 use replay_text::line::Line;
+use std::rt::Runtime;
 
 // Writes a line to standard output and answers whether it could, and says so where not.
-pub fn line(resumes: bool, line: Line) -> bool {
+pub fn line(rt: &impl Runtime, resumes: bool, line: Line) -> bool {
     if resumes {
-        return program_files::print(b"resume: ", line);
+        return program_files::print(rt, b"resume: ", line);
     }
-    program_files::print(b"replay: ", line)
+    program_files::print(rt, b"replay: ", line)
+}
+
+// Writes a line to standard error.
+fn tell(rt: &impl Eprint, line: Line) {
+    let bytes = line.bytes;
+    let used = within(line.used, &bytes);
+    say(rt, &bytes[..used]);
 }
 
 // Says that the keeper refused a piece.
-pub fn stopped(resumes: bool, number: u8) {
-    program_files::put(
-        libc::STDERR_FILENO,
-        replay_refusals::stopped(resumes, number),
-    );
+pub fn stopped(rt: &impl Eprint, resumes: bool, number: u8) {
+    tell(rt, replay_refusals::stopped(resumes, number));
 }
 
 // Says that a bench cannot be saved.
-pub fn unsaved(resumes: bool, number: u8) {
-    program_files::put(
-        libc::STDERR_FILENO,
-        replay_refusals::unsaved(resumes, number),
-    );
+pub fn unsaved(rt: &impl Eprint, resumes: bool, number: u8) {
+    tell(rt, replay_refusals::unsaved(resumes, number));
 }
 
 // The lines of all devices.
-fn devices(resumes: bool, bench: Bench) -> bool {
+fn devices(rt: &impl Runtime, resumes: bool, bench: Bench) -> bool {
     let bytes = bench.bytes;
     let n = memory::devices(&bytes);
     let mut p: u8 = 0;
     while p < n {
-        if !line(resumes, lines::device(bench, p)) {
+        if !line(rt, resumes, lines::device(bench, p)) {
             return false;
         }
         p += 1;
@@ -43,16 +46,16 @@ fn devices(resumes: bool, bench: Bench) -> bool {
 }
 
 // The number of replies, and the state that a log leaves.
-pub fn state(resumes: bool, progress: Progress) -> bool {
-    if !line(resumes, lines::replies(progress)) {
+pub fn state(rt: &impl Runtime, resumes: bool, progress: Progress) -> bool {
+    if !line(rt, resumes, lines::replies(progress)) {
         return false;
     }
     let bench = progress.bench;
-    if !line(resumes, lines::carried(bench)) {
+    if !line(rt, resumes, lines::carried(bench)) {
         return false;
     }
-    if !line(resumes, lines::callback(bench)) {
+    if !line(rt, resumes, lines::callback(bench)) {
         return false;
     }
-    devices(resumes, bench)
+    devices(rt, resumes, bench)
 }

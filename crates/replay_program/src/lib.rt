@@ -10,82 +10,77 @@ use program_end::{End, status};
 use replay_files::arguments::{Asked, Task};
 use replay_files::{arguments, printed};
 use replay_pieces::turn::Progress;
+use std::rt::Runtime;
 
 // Tells that the table is refused.
-fn refuse(answer: table::Answer) -> End
+fn refuse(rt: &impl Runtime, answer: table::Answer) -> End
     ensures { (result ≡ End.Refused) ⊎ (result ≡ End.Failed) }
 {
-    if printed::line(false, replay_report::refused(answer)) {
+    if printed::line(rt, false, replay_report::refused(answer)) {
         return End::Refused;
     }
     End::Failed
 }
 
 // Saves the bench that the log leaves, where that is asked: the one that the table and the pieces fed lead to.
-fn keep(table: &[u8], task: Task, progress: Progress) -> End
+fn keep(rt: &impl Runtime, table: &[u8], task: Task, progress: Progress) -> End
     requires { Replayed table.now progress }
     ensures { Ran result }
 {
     let bench = progress.bench;
-    state_file::keep(task, bench)
+    state_file::keep(rt, task, bench)
 }
 
 // Prints the state that the log leaves.
-fn tell(table: &[u8], progress: Progress) -> End
+fn tell(rt: &impl Runtime, table: &[u8], progress: Progress) -> End
     requires { Replayed table.now progress }
     ensures { (result ≡ End.Done) ⊎ (result ≡ End.Failed) }
 {
-    if printed::state(false, progress) {
+    if printed::state(rt, false, progress) {
         return End::Done;
     }
     End::Failed
 }
 
 // Loads the table, and replays the log; the bench that it leaves is saved before its state is printed.
-fn replay(table: &[u8], task: Task) -> End
+fn replay(rt: &impl Runtime, table: &[u8], task: Task) -> End
     ensures { Judged (load_of table.now).answer.number result }
 {
     let loaded = keeper::load(table);
     let answer = loaded.answer;
     let bench = loaded.bench;
     let table::Answer::Taken = answer else {
-        return refuse(answer);
+        return refuse(rt, answer);
     };
-    let session = replay_log::named(bench, task);
+    let session = replay_log::named(rt, bench, task);
     let end = session.end;
     let End::Done = end else {
         return end;
     };
     let progress = session.progress;
-    let kept = keep(table, task, progress);
+    let kept = keep(rt, table, task, progress);
     let End::Done = kept else {
         return kept;
     };
-    tell(table, progress)
+    tell(rt, table, progress)
 }
 
 // Reads the table, and replays the log. A table that is longer than 4,096 bytes is refused with the number of its first 4,096: the
 // longest that is taken has 519, and the tests before the length read the first seven bytes.
-fn begin(task: Task) -> End {
+fn begin(rt: &impl Runtime, task: Task) -> End {
     let mut bytes = io::buffer();
-    let read = program_files::first_bytes(b"replay: ", b"TABLE", &mut bytes);
-    if read.failed {
+    let read = program_files::first_bytes(rt, b"replay: ", b"TABLE", &mut bytes);
+    if read.failed.is_some() {
         return End::Failed;
     }
     let count = read.count;
-    replay(&bytes[..count], task)
+    replay(rt, &bytes[..count], task)
 }
 
 // The program, and its exit status.
-pub fn run() -> u8 {
-    let Asked::Given(task) = arguments::read(false) else {
+pub fn run(rt: &impl Runtime) -> u8 {
+    let Asked::Given(task) = arguments::read(rt, false) else {
         return status(End::Wrong);
     };
-    status(begin(task))
-}
-
-// The same for a host, whose exit status it is.
-#[unsafe(no_mangle)]
-pub extern "C" fn replay_run() -> u8 {
-    run()
+    status(begin(rt, task))
 }

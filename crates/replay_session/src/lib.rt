@@ -11,6 +11,7 @@ use program_end::End;
 use replay_files::{files, printed};
 use replay_pieces::turn;
 use replay_pieces::turn::Progress;
+use std::io::{Read, Write};
 
 // Where a replay stands: the bench and the replies, the end where there is no more, and whether there may be more to read.
 #[derive(Clone, Copy)]
@@ -21,12 +22,12 @@ pub struct Session {
 }
 
 // The program that speaks, what it reads from, in pieces of which size, and what it writes to.
-#[derive(Clone, Copy)]
-pub struct Ends {
+#[derive(Drop)]
+pub struct Ends<F> {
     pub resumes: bool,
-    pub log: i32,
+    pub log: F,
     pub size: usize,
-    pub out: i32,
+    pub out: F,
 }
 
 // A session that ends.
@@ -40,22 +41,25 @@ pub fn ended(progress: Progress, end: End) -> Session
     }
 }
 
-// Hands the C library what is to be written, the model's replies to a piece, each byte of them; says so where it fails. The bench and the
+// Hands the library what is to be written, the model's replies to a piece, each byte of them; says so where it fails. The bench and the
 // piece are there to name these replies.
-fn write_replies<'a>(
+fn write_replies<F: Write>(
+    rt: &(impl Eprint + Alloc),
     bench: Bench,
-    piece: &'a [u8],
-    replies: &'a [u8],
-    ends: Ends,
-    out_path: &'a [u8],
+    piece: &[u8],
+    replies: &[u8],
+    ends: &mut Ends<F>,
+    out_path: &[u8],
 ) -> bool
     requires { replies.now ≡ replies_in (run (state_of bench) piece.now).log }
 {
-    if io::write_all(ends.out, replies) {
-        return true;
+    match ends.out.write_all(replies) {
+        Ok(()) => true,
+        Err(error) => {
+            files::complain(rt, ends.resumes, out_path, error);
+            false
+        }
     }
-    files::complain(ends.resumes, out_path);
-    false
 }
 
 // The session after a piece that is taken.
@@ -73,7 +77,13 @@ fn answered(progress: Progress, is_written: bool) -> Session
 }
 
 // Feeds a piece and writes its replies.
-fn fed<'a>(before: Progress, piece: &'a [u8], ends: Ends, out_path: &'a [u8]) -> Session
+fn fed<F: Write>(
+    rt: &(impl Eprint + Alloc),
+    before: Progress,
+    piece: &[u8],
+    ends: &mut Ends<F>,
+    out_path: &[u8],
+) -> Session
     ensures { FedTo before piece.now result }
 {
     let mut replies = io::buffer();
@@ -82,40 +92,48 @@ fn fed<'a>(before: Progress, piece: &'a [u8], ends: Ends, out_path: &'a [u8]) ->
     let answer = turn.answer;
     let number = record_answer::number(answer);
     if number != 0 {
-        printed::stopped(ends.resumes, number);
+        printed::stopped(rt, ends.resumes, number);
         return ended(progress, End::Stopped);
     }
     let bench = before.bench;
     let written = turn.bytes;
-    let is_written = write_replies(bench, piece, &replies[..written], ends, out_path);
+    let is_written = write_replies(rt, bench, piece, &replies[..written], ends, out_path);
     answered(progress, is_written)
 }
 
 // Reads the next piece, feeds it and writes its replies.
-fn next<'a>(before: Progress, ends: Ends, log_path: &'a [u8], out_path: &'a [u8]) -> Session
+fn next<F: Read + Write>(
+    rt: &(impl Eprint + Alloc),
+    before: Progress,
+    ends: &mut Ends<F>,
+    log_path: &[u8],
+    out_path: &[u8],
+) -> Session
     ensures { Stepped before result }
 {
     let mut bytes = io::buffer();
-    let read = program_files::fill(ends.log, &mut bytes, ends.size);
-    if read.failed {
-        files::complain(ends.resumes, log_path);
+    let size = ends.size;
+    let read = program_files::fill(&mut ends.log, &mut bytes, size);
+    if let Some(error) = read.failed {
+        files::complain(rt, ends.resumes, log_path, error);
         return ended(before, End::Failed);
     }
     let count = read.count;
     if count == 0 {
         return ended(before, End::Done);
     }
-    fed(before, &bytes[..count], ends, out_path)
+    fed(rt, before, &bytes[..count], ends, out_path)
 }
 
 // Feeds the first piece and all that follow. A proved loop has to end, and nothing says that a file does: the loop ends at a number of
 // pieces that no log has. So each turn has to go on from where the one before it stands.
-pub fn pour<'a>(
-    first: &'a [u8],
+pub fn pour<F: Read + Write>(
+    rt: &(impl Eprint + Alloc),
+    first: &[u8],
     bench: Bench,
-    ends: Ends,
-    log_path: &'a [u8],
-    out_path: &'a [u8],
+    ends: &mut Ends<F>,
+    log_path: &[u8],
+    out_path: &[u8],
 ) -> Session
     ensures { Went bench result }
 {
@@ -124,13 +142,13 @@ pub fn pour<'a>(
         pieces: 0,
         replies: 0,
     };
-    let mut session = fed(start, first, ends, out_path);
+    let mut session = fed(rt, start, first, ends, out_path);
     while session.more {
         let progress = session.progress;
         if u64::MAX <= progress.pieces {
             break;
         }
-        session = next(progress, ends, log_path, out_path);
+        session = next(rt, progress, ends, log_path, out_path);
     }
     session
 }

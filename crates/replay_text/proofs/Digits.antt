@@ -36,9 +36,11 @@ glyph_digit d h = simp (lt-ltb d 10 h)
 
 up_to : (k f n : ℕ) → suc k ≤ f → n < 10 ^ suc k → (0 < k → 10 ^ k ≤ n) → last_digits 10 (suc k) n ≡ digits_up_to f n
 unfolding digits_up_to if◌then◌else◌
+up_to zero zero n h below above = elim h [ ]
 up_to zero (suc f) n h below above =
     let small : n < 10 = omega arith in
     let same : n % 10 ≡ n = omega arith in rw (lt-ltb n 10 small, same, glyph_digit n small)
+up_to (suc k) zero n h below above = elim h [ ]
 up_to (suc k) (suc f) n h below above =
     let p = above (omega arith) in
     let e = pow-suc 10 (suc k) in

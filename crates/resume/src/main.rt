@@ -2,6 +2,6 @@
 // program of this language ends with status 0; `resume_program::run` gives the status that a host ends with.
 #![tactic(auto)]
 
-fn main() {
-    resume_program::run();
+fn main(rt: HostRuntime) {
+    resume_program::run(&rt);
 }

@@ -10,39 +10,40 @@ use program_end::{End, status};
 use replay_files::arguments::{Asked, Task};
 use replay_files::{arguments, printed};
 use replay_pieces::turn::Progress;
+use std::rt::Runtime;
 
 // Tells that the state is refused.
-fn refuse(number: u8) -> End
+fn refuse(rt: &impl Runtime, number: u8) -> End
     ensures { (result ≡ End.Refused) ⊎ (result ≡ End.Failed) }
 {
-    if printed::line(true, replay_refusals::unrestored(number)) {
+    if printed::line(rt, true, replay_refusals::unrestored(number)) {
         return End::Refused;
     }
     End::Failed
 }
 
 // Saves the bench that the log leaves, where that is asked: the one that the saved state and the pieces fed lead to.
-fn keep(state: &[u8], task: Task, progress: Progress) -> End
+fn keep(rt: &impl Runtime, state: &[u8], task: Task, progress: Progress) -> End
     requires { Resumed state.now progress }
     ensures { Ran result }
 {
     let bench = progress.bench;
-    state_file::keep(task, bench)
+    state_file::keep(rt, task, bench)
 }
 
 // Prints the state that the log leaves.
-fn tell(state: &[u8], progress: Progress) -> End
+fn tell(rt: &impl Runtime, state: &[u8], progress: Progress) -> End
     requires { Resumed state.now progress }
     ensures { (result ≡ End.Done) ⊎ (result ≡ End.Failed) }
 {
-    if printed::state(true, progress) {
+    if printed::state(rt, true, progress) {
         return End::Done;
     }
     End::Failed
 }
 
 // Restores the bench, and feeds it the log; the bench that it leaves is saved before its state is printed.
-fn resume(state: &[u8], task: Task) -> End
+fn resume(rt: &impl Runtime, state: &[u8], task: Task) -> End
     ensures { Judged (restore_of state.now).number result }
 {
     let restored = saved::restore(state);
@@ -50,43 +51,37 @@ fn resume(state: &[u8], task: Task) -> End
     let bench = restored.bench;
     let number = saved_answer::restore_number(answer);
     if number != 0 {
-        return refuse(number);
+        return refuse(rt, number);
     }
-    let session = replay_log::named(bench, task);
+    let session = replay_log::named(rt, bench, task);
     let end = session.end;
     let End::Done = end else {
         return end;
     };
     let progress = session.progress;
-    let kept = keep(state, task, progress);
+    let kept = keep(rt, state, task, progress);
     let End::Done = kept else {
         return kept;
     };
-    tell(state, progress)
+    tell(rt, state, progress)
 }
 
 // Reads the saved state, and goes on from it. A file that is longer than the buffer has the number of its first bytes: the buffer is longer
 // than a saved state, and the tests before the length read the first five bytes.
-fn begin(task: Task) -> End {
+fn begin(rt: &impl Runtime, task: Task) -> End {
     let mut bytes = io::large_buffer();
-    let read = program_files::first_bytes(b"resume: ", b"STATE", &mut bytes);
-    if read.failed {
+    let read = program_files::first_bytes(rt, b"resume: ", b"STATE", &mut bytes);
+    if read.failed.is_some() {
         return End::Failed;
     }
     let count = read.count;
-    resume(&bytes[..count], task)
+    resume(rt, &bytes[..count], task)
 }
 
 // The program, and its exit status.
-pub fn run() -> u8 {
-    let Asked::Given(task) = arguments::read(true) else {
+pub fn run(rt: &impl Runtime) -> u8 {
+    let Asked::Given(task) = arguments::read(rt, true) else {
         return status(End::Wrong);
     };
-    status(begin(task))
-}
-
-// The same for a host, whose exit status it is.
-#[unsafe(no_mangle)]
-pub extern "C" fn resume_run() -> u8 {
-    run()
+    status(begin(rt, task))
 }

@@ -10,81 +10,147 @@ ghost use Rattle.state_file.specs.Keeping.{Kept};
 
 use keeper_bench::Bench;
 use program_end::End;
+use program_files::{argument, name, within};
 use replay_files::arguments::Task;
 use replay_files::{files, printed};
 use saved_copy::copy_bytes;
 use saved_form::FORM;
+use std::fs;
+use std::fs::{Files, OpenFile, OpenOptions, Permissions};
+use std::io::{Error, ErrorKind, Result, Write};
+use std::os::unix::fs::PermissionsExt;
+use std::rt::Runtime;
 
-// Hands the C library the bytes to be written, the form of the bench, and waits until they have reached the device. The bench is there to
-// name them.
-fn store(fd: i32, bench: Bench, bytes: &[u8]) -> bool
+// How many names of new files are tried.
+const TRIES: u32 = 1_000_000;
+
+// Hands the library the bytes to be written, the form of the bench, and waits until they have reached the device. The bench is there to name
+// them. Nobody else may read the file.
+fn store(file: &mut (impl Write + OpenFile), bench: Bench, bytes: &[u8]) -> Result<()>
     requires { bytes.now ≡ form (state_of bench) }
 {
-    if io::write_all(fd, bytes) {
-        return libc::fsync(fd) == 0;
-    }
-    false
+    file.set_permissions(Permissions::from_mode(0o600))?;
+    file.write_all(bytes)?;
+    file.sync_all()
 }
 
 // The same, and the file is closed.
-fn stored(fd: i32, bench: Bench, bytes: &[u8]) -> bool
+fn stored(mut file: impl Write + OpenFile + Drop, bench: Bench, bytes: &[u8]) -> Result<()>
     requires { bytes.now ≡ form (state_of bench) }
 {
-    let is_written = store(fd, bench, bytes);
-    let is_closed = libc::close(fd) == 0;
-    is_written & is_closed
+    store(&mut file, bench, bytes)
 }
 
-// Makes the new file, whose name `new` is then, writes it and gives it the name of the file to replace. Where that fails it says so, before
-// removing the new file changes errno.
-fn replaced<'a>(task: Task, bench: Bench, bytes: &'a [u8], path: &'a [u8], new: &mut [u8]) -> End
+// Writes the new file, whose name is `new`, and gives it the name of the file to replace, or removes it.
+fn moved<R: Files>(
+    rt: &R,
+    file: R::File,
+    bench: Bench,
+    bytes: &[u8],
+    path: &[u8],
+    new: &[u8],
+) -> Result<()>
     requires { bytes.now ≡ form (state_of bench) }
-    ensures { (result ≡ End.Done) ⊎ (result ≡ End.Failed) }
 {
-    let fd = os::create_temp(new);
-    if fd < 0 {
-        files::complain(task.resumes, path);
-        return End::Failed;
+    let new = name(new)?;
+    let path = name(path)?;
+    let mut moved = stored(file, bench, bytes);
+    if moved.is_ok() {
+        moved = fs::rename(rt, new, path);
     }
-    if stored(fd, bench, bytes) {
-        if os::rename(new, path) == 0 {
-            return End::Done;
-        }
+    if moved.is_err() {
+        let _ = fs::remove_file(rt, new);
     }
-    files::complain(task.resumes, path);
-    os::unlink(new);
-    End::Failed
+    moved
 }
 
-// The name of the new file, with an X for each letter that the system is to choose; how long it is.
-fn beside(path: &[u8], new: &mut [u8]) -> usize
+// A digit of n.
+fn digit(n: u32) -> u8 {
+    b'0' + (n % 10) as u8
+}
+
+// The end of the name of a new file: a point, and six digits of n.
+fn mark(n: u32) -> [u8; 7] {
+    [
+        b'.',
+        digit(n / 100_000),
+        digit(n / 10_000),
+        digit(n / 1_000),
+        digit(n / 100),
+        digit(n / 10),
+        digit(n),
+    ]
+}
+
+// The name of a new file beside the one that is replaced; how long it is.
+fn beside(path: &[u8], n: u32, new: &mut [u8]) -> usize
     ensures { IsPrefixLen result new.new }
 {
     copy_bytes(path, new);
-    let length = program_files::within(path.len(), new);
-    let mark = b".XXXXXX";
-    copy_bytes(mark, &mut new[length..]);
-    program_files::within(length + mark.len(), new)
+    let length = within(path.len(), new);
+    let mark = mark(n);
+    copy_bytes(&mark, &mut new[length..]);
+    within(length + mark.len(), new)
+}
+
+// Makes a file of that name, where there is none.
+fn create<R: Files>(rt: &R, new: &[u8]) -> Result<R::File> {
+    OpenOptions::new()
+        .write(true)
+        .create_new(true)
+        .open(rt, name(new)?)
+}
+
+// Makes a new file beside the one that is replaced, by the first name that is free, writes it and gives it the name of that one.
+fn replace(rt: &impl Files, bench: Bench, bytes: &[u8], path: &[u8]) -> Result<()>
+    requires { bytes.now ≡ form (state_of bench) }
+{
+    let mut new = io::large_buffer();
+    for n in 0..TRIES {
+        let end = beside(path, n, &mut new);
+        match create(rt, &new[..end]) {
+            Ok(file) => return moved(rt, file, bench, bytes, path, &new[..end]),
+            Err(error) => {
+                if error.kind() != ErrorKind::AlreadyExists {
+                    return Err(error);
+                }
+            }
+        }
+    }
+    Err(Error::from(ErrorKind::AlreadyExists))
+}
+
+// The same, and says where it fails.
+fn replaced(rt: &impl Runtime, task: Task, bench: Bench, bytes: &[u8], path: &[u8]) -> End
+    requires { bytes.now ≡ form (state_of bench) }
+    ensures { (result ≡ End.Done) ⊎ (result ≡ End.Failed) }
+{
+    match replace(rt, bench, bytes, path) {
+        Ok(()) => End::Done,
+        Err(error) => {
+            files::complain(rt, task.resumes, path, error);
+            End::Failed
+        }
+    }
 }
 
 // Replaces the file that the task names.
-fn named(task: Task, bench: Bench, bytes: &[u8]) -> End
+fn named(rt: &impl Runtime, task: Task, bench: Bench, bytes: &[u8]) -> End
     requires { bytes.now ≡ form (state_of bench) }
     ensures { (result ≡ End.Done) ⊎ (result ≡ End.Failed) }
 {
     let mut path = io::buffer();
-    let length = os::arg(task.save, &mut path);
-    if os::errno() != 0 {
-        files::complain(task.resumes, b"STATE");
-        return End::Failed;
+    match argument(rt, task.save, &mut path) {
+        Ok(length) => replaced(rt, task, bench, bytes, &path[..length]),
+        Err(error) => {
+            files::complain(rt, task.resumes, b"STATE", error);
+            End::Failed
+        }
     }
-    let mut new = io::large_buffer();
-    let end = beside(&path[..length], &mut new);
-    replaced(task, bench, bytes, &path[..length], &mut new[..end])
 }
 
 // Saves a bench to the file that the task names, or does nothing where it names none.
-pub fn keep(task: Task, bench: Bench) -> End
+pub fn keep(rt: &impl Runtime, task: Task, bench: Bench) -> End
     ensures { Kept task.save (state_of bench) result }
 {
     if task.save == 0 {
@@ -94,8 +160,8 @@ pub fn keep(task: Task, bench: Bench) -> End
     let saving = saved::save(bench, &mut bytes);
     let number = saved_answer::save_number(saving);
     if number != 0 {
-        printed::unsaved(task.resumes, number);
+        printed::unsaved(rt, task.resumes, number);
         return End::Stopped;
     }
-    named(task, bench, &bytes)
+    named(rt, task, bench, &bytes)
 }

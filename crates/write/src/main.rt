@@ -2,6 +2,6 @@
 // host ends with.
 #![tactic(auto)]
 
-fn main() {
-    write_program::run();
+fn main(rt: HostRuntime) {
+    write_program::run(&rt);
 }

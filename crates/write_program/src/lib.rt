@@ -7,14 +7,17 @@ ghost use Rattle.write_program.specs.Ends.{TableFor, refusal_line, MadeFor, Ends
 use basics::{long8, long16};
 use list_make::{Made, Refusal};
 use program_end::{End, status};
-use program_files::say;
+use program_files::{arg_count, close, say};
 use replay_text::line::Line;
+use std::fs::OpenFile;
+use std::io::{Result, Write};
+use std::rt::Runtime;
 
 // Tells why a list is turned away.
-fn tell(line: Line) -> End
+fn tell(rt: &impl Runtime, line: Line) -> End
     ensures { (result ≡ End.Refused) ⊎ (result ≡ End.Failed) }
 {
-    if program_files::print(b"write: ", line) {
+    if program_files::print(rt, b"write: ", line) {
         return End::Refused;
     }
     End::Failed
@@ -33,83 +36,75 @@ fn refusal(r: Refusal) -> Line
     list_report::refused(number, index, line as u64)
 }
 
-// Writes the bytes to an open file and closes it: whether all went well.
-fn stored(fd: i32, table: &[u8]) -> bool {
-    let written = io::write_all(fd, table);
-    let closed = libc::close(fd) == 0;
-    written & closed
+// Writes the bytes to an open file and closes it.
+fn stored(mut file: impl Write + OpenFile + Drop, table: &[u8]) -> Result<()> {
+    file.write_all(table)?;
+    close(file)
 }
 
 // Writes the table of a text to the file whose name is argument 2.
-fn store(text: &[u8], table: &[u8]) -> End
+fn store(rt: &impl Runtime, text: &[u8], table: &[u8]) -> End
     requires { TableFor text.now table.now }
     ensures { (result ≡ End.Done) ⊎ (result ≡ End.Failed) }
 {
     let mut path = io::buffer();
-    let file = program_files::opened(b"write: ", 2, b"TABLE", &mut path, true);
-    let fd = file.fd;
-    let length = file.length;
-    if fd < 0 {
+    let opened = program_files::opened(rt, b"write: ", 2, b"TABLE", &mut path, true);
+    let length = opened.length;
+    let Ok(file) = opened.file else {
         return End::Failed;
-    }
-    if stored(fd, table) {
+    };
+    let Err(error) = stored(file, table) else {
         return End::Done;
-    }
-    program_files::complain(b"write: ", &path[..length]);
+    };
+    program_files::complain(rt, b"write: ", &path[..length], error);
     End::Failed
 }
 
 // What is done with a list that has become this.
-fn finish(text: &[u8], made: Made, table: &[u8]) -> End
+fn finish(rt: &impl Runtime, text: &[u8], made: Made, table: &[u8]) -> End
     requires { MadeFor text.now made table.now }
     ensures { EndsBy made result }
 {
     match made {
-        Made::Written(size) => store(text, &table[..size]),
-        Made::Large(line) => tell(list_report::large(line as u64)),
-        Made::Wrong(line) => tell(list_report::wrong(line as u64)),
-        Made::Refused(r) => tell(refusal(r)),
+        Made::Written(size) => store(rt, text, &table[..size]),
+        Made::Large(line) => tell(rt, list_report::large(line as u64)),
+        Made::Wrong(line) => tell(rt, list_report::wrong(line as u64)),
+        Made::Refused(r) => tell(rt, refusal(r)),
     }
 }
 
 // Writes the table of a text, or tells why there is none.
-fn write(text: &[u8]) -> End
+fn write(rt: &impl Runtime, text: &[u8]) -> End
     ensures { ListEnds text.now result }
 {
     let mut table = io::buffer();
     let made = list_make::make(text, &mut table);
-    finish(text, made, &table)
+    finish(rt, text, made, &table)
 }
 
 // Reads the list whose name is argument 1, and writes its table. A list that fills the buffer is longer than is taken.
-fn begin() -> End {
+fn begin(rt: &impl Runtime) -> End {
     let mut text = io::large_buffer();
-    let read = program_files::first_bytes(b"write: ", b"LIST", &mut text);
-    if read.failed {
+    let read = program_files::first_bytes(rt, b"write: ", b"LIST", &mut text);
+    if read.failed.is_some() {
         return End::Failed;
     }
     let count = read.count;
     if 65536 <= count {
-        return tell(list_report::long());
+        return tell(rt, list_report::long());
     }
-    write(&text[..count])
+    write(rt, &text[..count])
 }
 
 // The program, and its exit status.
-pub fn run() -> u8 {
-    if os::arg_count() != 3 {
-        say(b"usage: write LIST TABLE\n");
+pub fn run(rt: &impl Runtime) -> u8 {
+    if arg_count(rt, 4) != 3 {
+        say(rt, b"usage: write LIST TABLE\n");
         return status(End::Wrong);
     }
-    if program_files::same_name(1, 2) {
-        say(b"write: TABLE has the name of LIST\n");
+    if program_files::same_name(rt, 1, 2) {
+        say(rt, b"write: TABLE has the name of LIST\n");
         return status(End::Wrong);
     }
-    status(begin())
-}
-
-// The same for a host, whose exit status it is.
-#[unsafe(no_mangle)]
-pub extern "C" fn write_run() -> u8 {
-    run()
+    status(begin(rt))
 }

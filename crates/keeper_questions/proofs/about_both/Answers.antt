@@ -3,4 +3,4 @@ use Rattle.keeper_questions.proofs.about_both.Goals as goal
 
 pub returns : goal.returns
 returns c =
-    rw (c.Knows-both.ensures, c.devices.ensures c.args.t1.words) at c.checked.ensures
+    rw (c.Knows-both.ensures, c.devices.ensures c.args.b.words) at c.checked.ensures

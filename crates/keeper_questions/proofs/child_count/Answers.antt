@@ -5,4 +5,4 @@ use Rattle.keeper_questions.proofs.child_count.Goals as goal
 
 pub returns : goal.returns
 returns c =
-    answered c.about-check.ensures c.tell_number.ensures (λ s k. c.word8.ensures ∙ c.children.ensures c.args.t1.words)
+    answered c.about-check.ensures c.tell_number.ensures (λ s k. c.word8.ensures ∙ c.children.ensures c.args.b.words)

@@ -10,7 +10,7 @@ use Rattle.keeper_questions.proofs.in_wake_set.Goals as goal
 pub returns : goal.returns
 unfolding in_wake
 returns c =
-    let b = c.args.t1 in
+    let b = c.args.b in
     answered c.about_both-check.ensures c.tell_member.ensures
     (λ s k.
     let o = s.kept.table.order in

@@ -7,4 +7,4 @@ use Rattle.keeper_questions.proofs.parents_above.Goals as goal
 pub returns : goal.returns
 returns c =
     answered c.about-check.ensures c.tell_number.ensures
-    (λ s k. c.word8.ensures ∙ c.parents_above.ensures.is c.args.t1.words s.kept.table.order (simp tests at k))
+    (λ s k. c.word8.ensures ∙ c.parents_above.ensures.is c.args.b.words s.kept.table.order (simp tests at k))

@@ -8,6 +8,6 @@ use Rattle.keeper_questions.proofs.status_of.Goals as goal
 
 pub returns : goal.returns
 returns c =
-    let e = c.status.ensures c.args.t1.words in
+    let e = c.status.ensures c.args.b.words in
     answered c.about-check.ensures c.tell_status.ensures
     (λ s k. let u = s.kept.statuses.used c.args.device (simp tests at k) in c.status_from.ensures ∙ four _ (omega arith) ∙ e)

@@ -10,7 +10,7 @@ use Rattle.keeper_questions.proofs.usage_count.Goals as goal
 pub returns : goal.returns
 unfolding LINKS
 returns c =
-    let bytes = c.args.t1.bytes in
+    let bytes = c.args.b.bytes in
     let e = rw (c.holds.ensures bytes, c.linked.ensures bytes) at c.usage-uses.ensures in
     answered c.about-check.ensures c.tell_number.ensures
     (λ s k. let l = usage_low s c.args.device (simp tests at k) in c.number64.ensures (omega arith) ∙ e)

@@ -4,4 +4,4 @@ use Rattle.keeper_questions.proofs.user_holds.Goals as goal
 
 pub returns : goal.returns
 returns c =
-    answered c.about-check.ensures c.tell_number.ensures (λ s k. c.holds.ensures c.args.t1.bytes)
+    answered c.about-check.ensures c.tell_number.ensures (λ s k. c.holds.ensures c.args.b.bytes)

@@ -3,7 +3,7 @@ use Prim.Native.Nat.{◌≤◌, ◌-◌}
 use Rattle.list_program.proofs.devices.Given as goal
 
 abbrev pub invariant-loop-p : goal.invariant-loop-p
-invariant-loop-p l = p ≤ l.n
+invariant-loop-p g l = l.p ≤ l.n
 
 abbrev pub decreases-loop-p : goal.decreases-loop-p
-decreases-loop-p l = l.n - p
+decreases-loop-p g l = l.n - l.p

@@ -4,10 +4,10 @@ use mathlib.Core.Logic.{inl, inr}
 use Rattle.list_program.proofs.entries.Goals as goal
 
 pub returns-then-not-devices : goal.returns-then-not-devices
-returns-then-not-devices c = inr refl
+returns-then-not-devices g c = inr refl
 
 pub returns-then-not-links : goal.returns-then-not-links
-returns-then-not-links c = inr refl
+returns-then-not-links g c = inr refl
 
 pub returns : goal.returns
-returns c = inl refl
+returns g c = inl refl

@@ -12,5 +12,5 @@ returns c =
     let a = c.args in
     let g = holds_field (ascii "refused ") a.number (holds_start c.start.ensures) refl c.field-numbered.ensures (omega arith) in
     let k = holds_field (ascii " ") a.index g refl c.field-indexed.ensures (omega arith) in
-    let l = holds_field (ascii " c ") a.line k refl c.field.ensures (omega arith) in
+    let l = holds_field (ascii " line ") a.line k refl c.field.ensures (omega arith) in
     (holds_word (ascii "\n") l c.word.ensures (omega arith)).line

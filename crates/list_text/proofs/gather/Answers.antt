@@ -1,6 +1,5 @@
 -- `list_text::gather` meets its contract. The invariant: the bytes of the lines that are left, stored after those of the lines passed, make what
 -- is asked for. They are few enough to be counted, since a line with three bytes has two places of the text at least. Assumes nothing.
-use Prim.Native.Nat.{◌-◌}
 use native.Mathlib.Omega.{arith}
 use Rattle.list_text.proofs.Gathering.{gathering_start, gathering_more, gathering_end}
 use Rattle.list_text.proofs.gather.Goals as goal
@@ -8,7 +7,7 @@ use Rattle.list_text.proofs.gather.Goals as goal
 -- one line more
 pub loop-start-preserved : goal.loop-start-preserved
 loop-start-preserved c =
-    gathering_more c.loop-start.invariant c.line_at_lem.ensures c.put_entry-at.ensures
+    gathering_more c.loop-start.invariant c.line_at-line.ensures c.put_entry-at.ensures
 
 -- the end of the text
 pub returns : goal.returns

@@ -1,4 +1,5 @@
 -- `list_text::is_of` meets its contract, by the variant matched. Assumes nothing.
+use Rattle.list_text.proofs.Gathering.{no_entry}
 use Rattle.list_text.proofs.Numbering.{part_sort, link_sort, none_sort}
 use Rattle.list_text.proofs.is_of.Goals as goal
 
@@ -12,4 +13,4 @@ returns-in-Link c = link_sort c.args.link c.in-Link.is
 
 -- any other line
 pub returns-in_default : goal.returns-in_default
-returns-in_default c = none_sort c.args.link c.args.entry c.in_default.is
+returns-in_default c = none_sort c.args.link c.args.entry (no_entry c.args.entry c.in_default.not-Part c.in_default.not-Link)

@@ -1,26 +1,25 @@
 -- `list_text::line_of` meets its contract. The invariant: among the lines that are left, counted on, the entry has those ahead of it that are
 -- still to be passed. Assumes nothing.
 use mathlib.Core.Path.{sym, ◌∙◌}
-use mathlib.Core.Logic.{⊎_elim}
-use Prim.Native.Nat.{◌-◌}
 use native.Mathlib.Omega.{arith}
 use Rattle.list_text.proofs.Numbering.{looking_start, looking_on, looking_past, looking_here, looking_none}
 use Rattle.list_text.proofs.line_of.Goals as goal
+use Rattle.list_text.proofs.line_of.Goals.{then-is_of+else-ahead-eq0, else-is_of}
 
 -- the entry
 pub returns-then-ahead-eq0 : goal.returns-then-ahead-eq0
 returns-then-ahead-eq0 c =
-    looking_here c.loop-start.invariant c.line_at_lem.ensures (sym c.is_of.ensures ∙ c.if-is_of.true) c.if-ahead-eq0.true
+    looking_here c.loop-start.invariant c.line_at-line.ensures (sym c.is_of.ensures ∙ c.if-is_of.true) c.if-ahead-eq0.true
 
 -- an entry ahead of it, or a line with none of the sort
 pub loop-start-preserved : goal.loop-start-preserved
 loop-start-preserved c =
     let inv = c.loop-start.invariant in
     let sort = sym c.is_of.ensures in
-    ⊎_elim
-    (λ w. rw w.2 (looking_past inv c.line_at_lem.ensures (sort ∙ w.0.taken) w.1.left))
-    (λ w. rw w.1 (looking_on inv c.line_at_lem.ensures (sort ∙ w.0.left)))
-    c.if-is_of.branch
+    elim c.if-is_of.branch [
+      | then-is_of+else-ahead-eq0 w ↦ rw w.ahead-is (looking_past inv c.line_at-line.ensures (sort ∙ w.if-is_of.true) w.if-ahead-eq0.false)
+      | else-is_of w ↦ rw w.ahead-is (looking_on inv c.line_at-line.ensures (sort ∙ w.if-is_of.false))
+    ]
 
 -- the end of the text
 pub returns : goal.returns

@@ -1,6 +1,6 @@
 -- `list_text::put_entry` meets its contract, by the variant matched and the sort asked for. Assumes nothing.
 use Rattle.model.proofs.Logic.{not_iff, not_fails}
-use Rattle.list_text.proofs.Gathering.{part_passed, link_passed, none_passed, part_stored, link_stored}
+use Rattle.list_text.proofs.Gathering.{part_passed, link_passed, none_passed, no_entry, part_stored, link_stored}
 use Rattle.list_text.proofs.put_entry.Goals as goal
 
 -- a part
@@ -31,4 +31,4 @@ returns-else-link c =
 pub returns-in_default : goal.returns-in_default
 returns-in_default c =
     let given = c.args in
-    none_passed given.at given.out.now c.in_default.is
+    none_passed given.at given.out.now (no_entry given.entry c.in_default.not-Part c.in_default.not-Link)

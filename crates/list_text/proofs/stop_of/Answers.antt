@@ -1,7 +1,6 @@
 -- `list_text::stop_of` meets its contract. The invariant: the first line feed from the place reached on is the first from the start on.
 -- Assumes nothing.
 use mathlib.Core.Path.{refl}
-use Prim.Native.Nat.{◌-◌}
 use native.Mathlib.Omega.{arith}
 use Rattle.list_text.proofs.Cutting.{feed_here, feed_on, feed_none}
 use Rattle.list_text.proofs.stop_of.Goals as goal

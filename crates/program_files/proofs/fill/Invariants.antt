@@ -5,7 +5,7 @@ use lib.ListN.{length}
 use Rattle.program_files.proofs.fill.Given as goal
 
 abbrev pub invariant-loop-done : goal.invariant-loop-done
-invariant-loop-done l = (l.most ≤ length l.initial.buf) × (l.done ≤ l.most) × (length l.buf ≡ length l.initial.buf)
+invariant-loop-done g l = (l.most ≤ length l.initial.buf) × (l.done ≤ l.most) × (length l.buf ≡ length l.initial.buf)
 
 abbrev pub decreases-loop-done : goal.decreases-loop-done
-decreases-loop-done l = l.most - l.done
+decreases-loop-done g l = l.most - l.done

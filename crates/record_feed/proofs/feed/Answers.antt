@@ -36,7 +36,7 @@ pub take_piece-requires : goal.take_piece-requires
 take_piece-requires c =
     let used = c.wide8-used.ensures ∙ c.used.ensures _ in
     let few = few_carried ((state_in c.args.bytes.now c.args.words.now)) (passed (soundness (goal.at.take_piece-requires c).After-sound_by) c.if-not-sound_by.false-raw) in
-    record { few = rw used few; c = c.if-piece-gt-PIECE.false; c = c.if-replies-count.false }
+    record { few = rw used few; short = c.if-piece-gt-PIECE.false; room = c.if-replies-count.false }
 
 -- taken
 pub returns : goal.returns

@@ -26,7 +26,7 @@ returns-then-replies-whole c =
 -- the tests passed
 fits : (c : Else-replies-whole) → Room c.args.carried.used c.args.piece.now c.args.replies.now
 fits c =
-    record { few = c.if-used-gt3.false; c = c.if-piece-gt-PIECE.false; room = c.if-replies-whole.false }
+    record { few = c.if-used-gt3.false; short = c.if-piece-gt-PIECE.false; room = c.if-replies-whole.false }
 
 pub answer_all-requires : goal.answer_all-requires
 answer_all-requires c = fits (goal.at.answer_all-requires c).Else-replies-whole

@@ -8,15 +8,15 @@ use borrow.Author.Rules.{rules}
 use Rattle.record_piece.proofs.byte.Goals as goal
 use Rattle.record_piece.proofs.byte.Goals.{Start}
 
-few : (c : Start) → c.args.used ≤ length c.args.t1
+few : (c : Start) → c.args.used ≤ length c.args.carried
 few c = search rules
 
 -- a carried byte
 pub returns-then-i-used : goal.returns-then-i-used
 returns-then-i-used c =
-    carried_at c.args.t1 _ _ (few (goal.at.returns-then-i-used c).Start) c.args.i c.if-i-used.true
+    carried_at c.args.carried _ _ (few (goal.at.returns-then-i-used c).Start) c.args.i c.if-i-used.true
 
 -- a byte of the piece
 pub returns : goal.returns
 returns c =
-    c.byte_at.ensures ∙ piece_at c.args.t1 _ _ (few (goal.at.returns c).Start) c.args.i _ (let l = c.if-i-used.false in omega arith)
+    c.byte_at.ensures ∙ piece_at c.args.carried _ _ (few (goal.at.returns c).Start) c.args.i _ (let l = c.if-i-used.false in omega arith)

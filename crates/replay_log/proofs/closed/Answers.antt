@@ -4,10 +4,10 @@ use mathlib.Core.Logic.{inl, inr}
 use Rattle.replay_log.proofs.closed.Goals as goal
 
 pub returns-then-not-is_closed : goal.returns-then-not-is_closed
-returns-then-not-is_closed c = inr refl
+returns-then-not-is_closed g c = inr refl
 
 pub returns-in_default : goal.returns-in_default
-returns-in_default c = inl refl
+returns-in_default g c = inl refl
 
 pub returns : goal.returns
-returns c = inl refl
+returns g c = inl refl

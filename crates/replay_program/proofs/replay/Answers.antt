@@ -1,55 +1,62 @@
 -- A refused table is told; one that is taken is replayed from its bench, and the bench that is saved and told is the last one. Assumes nothing.
-use mathlib.Core.Path.{◌≡◌, refl, sym, ap, ◌∙◌}
+use mathlib.Core.Path.{refl, sym, ap, ◌∙◌}
 use mathlib.Core.Logic.{⊎_elim}
-use Rattle.model.specs.State.{Loaded, load_of}
-use Rattle.table.proofs.Handing.{refused, taken}
-use Rattle.replay_pieces.specs.Poured.{Replayed}
+use borrow.Enum.Refused.{opened}
+use Rattle.model.specs.State.{Loaded}
+use Rattle.table.specs.declared.Answer.{Answer}
+use Rattle.table.specs.Answers.{answer_of}
+use Rattle.table.proofs.Handing.{refused}
 use Rattle.replay_session.proofs.Sessions.{ran_done, ran_failed, judged_refused, judged_taken}
 use Rattle.replay_program.proofs.replay.Goals as goal
-use Rattle.replay_program.proofs.replay.Goals.{After-named-session}
-
-zero : (f : After-named-session) → (load_of (f.args.table.now)).answer.number ≡ 0
-zero f =
-    let load = f.load in
-    sym (ap (λ (l : Loaded). l.answer.number) load.ensures) ∙ taken load.result.answer f.in-Taken.is
-
--- what was fed, from its bench on
-replayed : (f : After-named-session) → Replayed (f.args.table.now) f.named-session.result.progress
-replayed f =
-    let load = f.load in
-    record {
-      load = record { =.args.table.now f.args.table.now; result = load.result };
-      given = refl;
-      met = load.ensures;
-      taken = taken load.result.answer f.in-Taken.is;
-      poured = f.named-session.ensures.poured;
-    }
 
 -- ---- exits
 -- the table is refused
 pub returns-in_default : goal.returns-in_default
-returns-in_default c =
-    let load = c.load in
+returns-in_default g c =
+    let load = c.load-loaded in
     let number = ap (λ (l : Loaded). l.answer.number) load.ensures in
-    judged_refused (λ z. refused load.result.answer c.in_default.is (number ∙ z)) c.refuse.ensures
+    judged_refused (λ z. refused load.result.answer (opened c.in_default.in_default-own.keys2) (number ∙ z)) c.refuse.ensures
 
 -- the replay of the log ends early
 pub returns-in_default-end : goal.returns-in_default-end
-returns-in_default-end c = judged_taken (zero (goal.at.returns-in_default-end c).After-named-session) c.named-session.ensures.ran
+returns-in_default-end g c =
+    let load = c.load-loaded in
+    let number = ap (λ (l : Loaded). l.answer.number) load.ensures in
+    judged_taken (sym number ∙ ap (λ (a : Answer). (answer_of a).number) c.in-Taken.is) c.named-session.ensures.ran
 
+-- what was fed, from its bench on
 pub keep-kept-requires : goal.keep-kept-requires
-keep-kept-requires c = replayed (goal.at.keep-kept-requires c).After-named-session
+keep-kept-requires g c =
+    let load = c.load-loaded in
+    record {
+      load = record { table = c.args.table.now; result = load.result };
+      given = refl;
+      met = load.ensures;
+      taken = ap (λ (a : Answer). (answer_of a).number) c.in-Taken.is;
+      poured = c.named-session.ensures.poured;
+    }
 
 -- the bench cannot be saved
 pub returns-in_default-kept : goal.returns-in_default-kept
-returns-in_default-kept c =
-    judged_taken (zero (goal.at.returns-in_default-kept c).After-named-session) c.keep-kept.ensures
+returns-in_default-kept g c =
+    let load = c.load-loaded in
+    let number = ap (λ (l : Loaded). l.answer.number) load.ensures in
+    judged_taken (sym number ∙ ap (λ (a : Answer). (answer_of a).number) c.in-Taken.is) c.keep-kept.ensures
 
 pub tell-requires : goal.tell-requires
-tell-requires c =
-    replayed (goal.at.tell-requires c).After-named-session
+tell-requires g c =
+    let load = c.load-loaded in
+    record {
+      load = record { table = c.args.table.now; result = load.result };
+      given = refl;
+      met = load.ensures;
+      taken = ap (λ (a : Answer). (answer_of a).number) c.in-Taken.is;
+      poured = c.named-session.ensures.poured;
+    }
 
 -- the state is told
 pub returns : goal.returns
-returns c =
-    judged_taken (zero (goal.at.returns c).After-named-session) (⊎_elim ran_done ran_failed c.tell.ensures)
+returns g c =
+    let load = c.load-loaded in
+    let number = ap (λ (l : Loaded). l.answer.number) load.ensures in
+    judged_taken (sym number ∙ ap (λ (a : Answer). (answer_of a).number) c.in-Taken.is) (⊎_elim ran_done ran_failed c.tell.ensures)

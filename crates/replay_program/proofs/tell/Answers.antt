@@ -4,7 +4,7 @@ use mathlib.Core.Logic.{inl, inr}
 use Rattle.replay_program.proofs.tell.Goals as goal
 
 pub returns-then-state : goal.returns-then-state
-returns-then-state c = inl refl
+returns-then-state g c = inl refl
 
 pub returns : goal.returns
-returns c = inr refl
+returns g c = inr refl

@@ -44,6 +44,6 @@ returns-in-3 c =
 pub returns-in_default : goal.returns-in_default
 unfolding ascii callback_text if◌then◌else◌
 returns-in_default c =
-    let n = c.in-0.rest in
+    let n = c.in_default.in_default-own.rest in
     let h = holds_start c.start-in_default.ensures in
     rw (ne_eqb _ 0 n.0.0.0.1, ne_eqb _ 1 n.0.0.1, ne_eqb _ 2 n.0.1, ne_eqb _ 3 n.1) (holds_word (ascii "callback unknown\n") h c.word-in_default.ensures (omega arith)).line

@@ -4,12 +4,12 @@ use Rattle.replay_session.proofs.next.Goals as goal
 
 -- the read fails
 pub returns-then-read : goal.returns-then-read
-returns-then-read c = let ended = c.ended.ensures in stepped_none ended.0 (ran_failed ended.1) ended.2
+returns-then-read g c = let ended = c.ended.ensures in stepped_none ended.0 (ran_failed ended.1) ended.2
 
 -- the log ends
 pub returns-then-count-eq0 : goal.returns-then-count-eq0
-returns-then-count-eq0 c = let ended = c.ended-then-count-eq0.ensures in stepped_none ended.0 (ran_done ended.1) ended.2
+returns-then-count-eq0 g c = let ended = c.ended-then-count-eq0.ensures in stepped_none ended.0 (ran_done ended.1) ended.2
 
 -- a piece
 pub returns : goal.returns
-returns c = stepped_one c.fed.ensures
+returns g c = stepped_one c.fed.ensures

@@ -5,7 +5,7 @@ use Rattle.replay_session.proofs.Sessions.{turns_left}
 use Rattle.replay_session.proofs.pour.Given as goal
 
 abbrev pub invariant-loop-session : goal.invariant-loop-session
-invariant-loop-session l = Onward l.initial.session.progress l.session
+invariant-loop-session g l = Onward l.initial.session.progress l.session
 
 abbrev pub decreases-loop-session : goal.decreases-loop-session
-decreases-loop-session l = turns_left l.session.more l.session.progress.pieces
+decreases-loop-session g l = turns_left l.session.more l.session.progress.pieces

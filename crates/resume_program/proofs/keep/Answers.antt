@@ -3,4 +3,4 @@ use Rattle.state_file.proofs.Ending.{kept_ran}
 use Rattle.resume_program.proofs.keep.Goals as goal
 
 pub returns : goal.returns
-returns c = kept_ran c.keep.ensures
+returns g c = kept_ran c.keep.ensures

@@ -4,7 +4,7 @@ use mathlib.Core.Logic.{inl, inr}
 use Rattle.resume_program.proofs.refuse.Goals as goal
 
 pub returns-then-line : goal.returns-then-line
-returns-then-line c = inl refl
+returns-then-line g c = inl refl
 
 pub returns : goal.returns
-returns c = inr refl
+returns g c = inr refl

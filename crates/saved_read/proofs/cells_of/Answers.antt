@@ -2,11 +2,12 @@
 use mathlib.Core.Path.{refl}
 use Rattle.model.specs.Limits.{ROWS, LINKS}
 use Rattle.memory.specs.Layout.{BYTES, WORDS}
+use Rattle.saved_form.specs.Form.{FORM}
 use Rattle.saved_read.proofs.Heads.{version1_fits, zeros_long, cells_filled}
 use Rattle.saved_read.proofs.cells_of.Goals as goal
 
 pub fill-requires : goal.fill-requires
-unfolding BYTES WORDS ROWS LINKS
+unfolding FORM BYTES WORDS ROWS LINKS
 fill-requires c =
     let fresh = c.refused-fresh.ensures in
     version1_fits _ _ _ c.requires (zeros_long fresh.1) (zeros_long fresh.2)

@@ -1,6 +1,5 @@
 -- `saved_read::fill` meets its contract. The invariant: the spans that are left lead where all of them lead. Assumes nothing.
 use mathlib.Core.Path.{◌≡◌}
-use Prim.Native.Nat.{◌-◌}
 use native.Mathlib.Omega.{arith}
 use lib.ListN.{length}
 use Rattle.saved_form.specs.Restoring.{version1}
@@ -10,7 +9,7 @@ use Rattle.saved_read.proofs.fill.Goals as goal
 use Rattle.saved_read.proofs.fill.Goals.{Start}
 
 -- the table has all its spans
-many : (c : Start) → length c.args.t2 ≡ length version1
+many : (c : Start) → length c.args.spans ≡ length version1
 many c = let g = c.well_formed.1.0 in search rules
 
 pub loop-k-init : goal.loop-k-init

@@ -12,12 +12,14 @@ use Rattle.saved_read.proofs.read.Goals as goal
 
 -- fewer than five bytes
 pub returns-then-f-lt-HEADER : goal.returns-then-f-lt-HEADER
+unfolding BYTES WORDS ROWS LINKS
 returns-then-f-lt-HEADER c =
     let r = c.refused.ensures in
     read_refused (head_short _ c.if-f-lt-HEADER.true) (λ z. omega arith) (ap restoring_of r.0) r.1 r.2
 
 -- another mark
 pub returns-then-not-is_marked : goal.returns-then-not-is_marked
+unfolding BYTES WORDS ROWS LINKS
 returns-then-not-is_marked c =
     let r = c.refused-then-not-is_marked.ensures in
     let some = c.if-f-lt-HEADER.false in
@@ -25,6 +27,7 @@ returns-then-not-is_marked c =
 
 -- another version
 pub returns-then-version_in-ne1 : goal.returns-then-version_in-ne1
+unfolding BYTES WORDS ROWS LINKS
 returns-then-version_in-ne1 c =
     let r = c.refused-then-version_in-ne1.ensures in
     let some = c.if-f-lt-HEADER.false in
@@ -51,4 +54,4 @@ unfolding FORM BYTES WORDS ROWS LINKS
 returns c =
     let some = c.if-f-lt-HEADER.false in
     let one = sym c.version_in.ensures ∙ c.if-version_in-ne1.false in
-    read_taken some (record { mark = passed c.is_marked.ensures c.if-not-is_marked.false-raw; c = one; long = c.if-f-ne-FORM.false }) c.Cells-of.ensures
+    read_taken some (record { mark = passed c.is_marked.ensures c.if-not-is_marked.false-raw; version = one; long = c.if-f-ne-FORM.false }) c.cells_of.ensures

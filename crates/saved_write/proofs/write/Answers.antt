@@ -10,11 +10,11 @@ use Rattle.saved_write.proofs.write.Goals as goal
 use Rattle.saved_write.proofs.write.Goals.{Start}
 
 -- both arrays have all their cells
-many_bytes : (c : Start) → length c.args.t1 ≡ BYTES
+many_bytes : (c : Start) → length c.args.bytes ≡ BYTES
 unfolding BYTES ROWS LINKS
 many_bytes c = let g = c.well_formed.0 in search rules
 
-many_words : (c : Start) → length c.args.t2 ≡ WORDS
+many_words : (c : Start) → length c.args.words ≡ WORDS
 unfolding WORDS ROWS
 many_words c = let g = c.well_formed.1.0 in search rules
 

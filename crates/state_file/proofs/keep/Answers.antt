@@ -11,16 +11,6 @@ use Rattle.memory.specs.Layout.{BYTES, WORDS}
 use Rattle.saved_form.specs.Form.{FORM}
 use Rattle.state_file.proofs.Keeping.{sound_saved, unsound_refused, form_saved}
 use Rattle.state_file.proofs.keep.Goals as goal
-use Rattle.state_file.proofs.keep.Goals.{Start}
-
--- the arrays of a bench have their lengths by its type
-many_bytes : (c : Start) → length c.args.bench.bytes ≡ BYTES
-unfolding BYTES ROWS LINKS
-many_bytes c = let g = c.well_formed.1.0 in search rules
-
-many_words : (c : Start) → length c.args.bench.words ≡ WORDS
-unfolding WORDS ROWS
-many_words c = let g = c.well_formed.1.0 in search rules
 
 -- and the buffer that of a form
 abbrev buffer : List ℕ
@@ -31,14 +21,14 @@ room = length-replicate FORM 0
 
 -- nothing is asked
 pub returns-then-task-eq0 : goal.returns-then-task-eq0
-returns-then-task-eq0 c =
+returns-then-task-eq0 g c =
     let z = c.if-task-eq0.true in
     record { unasked = λ e. refl; sound = λ n t. absurd (n z); unsound = λ n t. absurd (n z) }
 
 -- the bench is not sound
 pub returns-then-number-ne0 : goal.returns-then-number-ne0
 unfolding FORM BYTES WORDS ROWS LINKS
-returns-then-number-ne0 c =
+returns-then-number-ne0 g c =
     let bench = c.args.bench in
     let number = c.save_number-number.ensures in
     record {
@@ -49,14 +39,14 @@ returns-then-number-ne0 c =
 
 pub named-requires : goal.named-requires
 unfolding FORM BYTES WORDS ROWS LINKS
-named-requires c =
+named-requires g c =
     let z = sym c.save_number-number.ensures ∙ c.if-number-ne0.false in
     form_saved c.args.bench buffer room c.save-saving.result c.save-saving.ensures (many_bytes (goal.at.named-requires c).Start) (many_words (goal.at.named-requires c).Start) z
 
 -- the bench is saved, or a file fails
 pub returns : goal.returns
 unfolding FORM BYTES WORDS ROWS LINKS
-returns c =
+returns g c =
     let bench = c.args.bench in
     let z = sym c.save_number-number.ensures ∙ c.if-number-ne0.false in
     record {

@@ -6,10 +6,10 @@ use Rattle.write_program.proofs.Ending.{list_ends}
 use Rattle.write_program.proofs.write.Goals as goal
 
 pub finish-requires : goal.finish-requires
-finish-requires c = made_for _ _ c.make-made.ensures
+finish-requires g c = made_for _ _ c.make-made.ensures
 
 pub returns : goal.returns
 unfolding DEVICES LINKS
-returns c =
+returns g c =
     let b = c.buffer-table.ensures in
     list_ends _ _ _ (omega arith) c.make-made.ensures c.finish.ensures

@@ -1,8 +1,5 @@
 -- `keeper_bench::Bench::idle` meets its contract: it is `take` at kind 7. Assumes nothing.
 use Rattle.keeper_bench.proofs.Bench.idle.Goals as goal
 
-pub take-requires : goal.take-requires
-take-requires = (λ _ _. _)
-
 pub returns : goal.returns
 returns c = c.take.ensures

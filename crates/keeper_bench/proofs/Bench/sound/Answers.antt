@@ -10,11 +10,11 @@ use borrow.Author.Rules.{rules}
 use Rattle.keeper_bench.proofs.Bench.sound.Goals as goal
 use Rattle.keeper_bench.proofs.Bench.sound.Goals.{Start}
 
-many_bytes : (c : Start) → length c.args.t1.bytes ≡ BYTES
+many_bytes : (c : Start) → length c.args.self.now.bytes ≡ BYTES
 unfolding BYTES ROWS LINKS
 many_bytes c = let g = c.well_formed.0 in search rules
 
-many_words : (c : Start) → length c.args.t1.words ≡ WORDS
+many_words : (c : Start) → length c.args.self.now.words ≡ WORDS
 unfolding WORDS ROWS
 many_words c = let g = c.well_formed.0 in search rules
 

@@ -12,6 +12,6 @@ returns c =
       met = met;
       bytes = ap (λ (k : ℕ). 4 * k) more;
       within = rw (more, ap (λ (f : Fed). f.buffer) met) (replies_within _ _);
-      c = c.wrapping_add_u64.ensures;
+      pieces = c.wrapping_add_u64.ensures;
       total = c.wrapping_add_u64-2.ensures ∙ ap (λ (k : ℕ). (c.args.progress.replies + k) % 2 ^ 64) more;
     }

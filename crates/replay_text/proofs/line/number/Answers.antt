@@ -9,7 +9,7 @@ use Rattle.replay_text.proofs.line.number.Goals as goal
 pub returns : goal.returns
 returns c =
     let x = c.args.x in
-    let d = c.decimal in
+    let d = c.decimal-k in
     let small : x < 2 ^ 64 = search rules in
-    let e = d.ensures.1.1 ∙ decimal_digits d.result x small d.ensures.1.0 in
+    let e = d.ensures.digits ∙ decimal_digits d.result x small d.ensures.len in
     c.word.ensures ∙ rw e

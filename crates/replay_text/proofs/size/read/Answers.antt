@@ -1,7 +1,7 @@
 -- `replay_text::size::read` meets its contract. The invariant: the bytes that are left give, after the value so far, what the whole text gives.
 -- Assumes nothing.
 use mathlib.Core.Path.{◌≡◌, refl, sym, ◌∙◌}
-use Prim.Native.Nat.{◌+◌, ◌*◌, ◌-◌, ◌≤◌}
+use Prim.Native.Nat.{◌+◌, ◌*◌, ◌≤◌}
 use native.Mathlib.Omega.{arith}
 use lib.ListN.{drop}
 use Rattle.replay_text.specs.Sizes.{size_after, size_of}
