@@ -1,4 +1,4 @@
-# make run       the programs, proved and built, on the worked day of examples/day
+# make run       the program replay, compiled without a proof, on the worked day of examples/day
 # make programs  the programs replay, resume, write and list, proved and built, in host/target/release/
 # make c-host    libkeeper.a and keeper.h for a C host, proved and built, in target/c-host/; 'make built hosted' checks them from C
 # make scripts   the test programs on their scripts, proved, built and run
@@ -21,6 +21,8 @@ FEEDS ?= 60000
 # where the proved archives and programs are put; the Rust packages read both variables
 export KEEPER_ARCHIVES := $(CURDIR)/target/archives
 export KEEPER_PROGRAMS := $(CURDIR)/target/programs
+# and what is compiled without a proof
+UNPROVED := $(CURDIR)/target/unproved
 # one core for the times, where that can be asked for
 PIN := $(shell command -v taskset > /dev/null && echo taskset -c 0)
 
@@ -32,10 +34,13 @@ SCRIPTS := test_tables test_writer test_records test_pieces
 
 DAY := examples/day
 
-run: programs
+run:
+	@echo "step 1 of 2: compiling the program; 'make test' proves the same files, 'make programs' builds it proved"
+	@tests/unproved $(UNPROVED) replay_run > /dev/null
+	@cd host && cargo build --release --offline --quiet
 	@mkdir -p target/day
-	@echo "the log of $(DAY), replayed in pieces of 5 bytes:"
-	@host/target/release/replay $(DAY)/table.bin $(DAY)/log.bin target/day/replies.bin 5
+	@echo "step 2 of 2: the log of $(DAY), replayed in pieces of 5 bytes:"
+	@KEEPER_PROGRAMS=$(UNPROVED) host/target/release/replay $(DAY)/table.bin $(DAY)/log.bin target/day/replies.bin 5
 	@echo "each record of the log, and the reply to it:"
 	@examples/show $(DAY)/log.bin target/day/replies.bin
 	@cmp target/day/replies.bin $(DAY)/replies.bin && echo "the replies are those of document 01"

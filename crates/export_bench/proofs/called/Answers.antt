@@ -56,5 +56,5 @@ pub returns-in_default : goal.returns-in_default
 unfolding Passed
 returns-in_default c =
     let args = c.args in
-    let r = c.in-1.rest in
+    let r = c.in_default.in_default-own.rest in
     rw (last_called args.kind args.p args.v (λ l. past args.kind 1 12 l r)) c.result.ensures

@@ -31,5 +31,5 @@ pub returns-in_default : goal.returns-in_default
 unfolding Passed
 returns-in_default c =
     let args = c.args in
-    let far = past args.question 0 5 (omega arith) c.in-0.rest in
+    let far = past args.question 0 5 (omega arith) c.in_default.in_default-own.rest in
     rw (last_asked _ args.question args.p args.q far) (c.member_code.ensures ∙ ap told_code c.in_wake_set.ensures)
