@@ -2,7 +2,7 @@
 use mathlib.Core.Path.{◌≡◌, refl, ap}
 use native.Mathlib.Omega.{arith}
 use borrow.Author.Tests.{ne_eqb}
-use Rattle.model.specs.Logic.{if◌then◌else◌}
+use Rattle.model.specs.Logic.{when◌then◌else◌}
 use Rattle.model.specs.State.{load_of}
 use Rattle.table.specs.declared.Answer.{Answer}
 use Rattle.table.specs.declared.Answer.TheVariants.{Taken, Short, Mark, Version, Limits, Length, Device, Link}
@@ -22,14 +22,14 @@ refusal (Link i) h e = omega arith
 
 -- refused
 pub returns-in_default : goal.returns-in_default
-unfolding load_of if◌then◌else◌
+unfolding load_of when◌then◌else◌
 returns-in_default c =
     let j = c.judge-answer in
     rw (← j.ensures, ne_eqb _ _ (refusal j.result c.in_default.not-Taken), c.empty.ensures)
 
 -- taken
 pub returns : goal.returns
-unfolding load_of if◌then◌else◌
+unfolding load_of when◌then◌else◌
 returns c =
     let j = c.judge-answer in
     rw (← j.ensures, ap (λ (a : Answer). (answer_of a).number) c.in-Taken.is, c.at_rest.ensures)
