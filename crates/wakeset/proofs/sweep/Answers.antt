@@ -46,7 +46,7 @@ each_step c words h l none z =
     let a = c.args in
     let marked = c.pass-low.ensures.is words (rw none (length-set (replicate ROWS false) c.row.result true ∙ length-replicate ROWS false)) in
     let begun : Swept (state_in a.bytes.now words) a.first.now a.t a.t c.pass-low.new.marks c.pass-low.result =
-        swept_start _ _ _ (omega arith) (omega arith) z (rw (c.row.ensures.0, none) at marked) in
+    swept_start _ _ _ (omega arith) (omega arith) z (rw (c.row.ensures.0, none) at marked) in
     exact h l (c.loop-low.invariant.1 words begun)
 
 -- the lowest mark is reached

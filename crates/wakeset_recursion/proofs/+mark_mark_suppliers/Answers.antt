@@ -39,10 +39,10 @@ mark-returns t c =
     let told = c.on_parent.ensures in
     let a = c.args in
     let met : Marks (FromParent a.p) a.bytes.now a.first.now a.p a.marks.now c.if-on_parent.marks =
-        elim c.if-on_parent.branch [
-          mark-then-on_parent w ↦ rw w.marks-is (parent_taken w.parent.ensures (λ words. sym (told words) ∙ w.if-on_parent.true) w.mark.ensures)
-        | mark-else-on_parent w ↦ rw w.marks-is (parent_left (λ words. sym (told words) ∙ w.if-on_parent.false))
-        ] in
+    elim c.if-on_parent.branch [
+      | mark-then-on_parent w ↦ rw w.marks-is (parent_taken w.parent.ensures (λ words. sym (told words) ∙ w.if-on_parent.true) w.mark.ensures)
+      | mark-else-on_parent w ↦ rw w.marks-is (parent_left (λ words. sym (told words) ∙ w.if-on_parent.false))
+    ] in
     let row = c.row-at.ensures.0 in
     let links = rw (c.wide.ensures, row) at c.mark_suppliers.ensures in
     rw row (marks_whole (omega arith) c.requires met links)
@@ -84,9 +84,9 @@ mark_suppliers-returns t c =
     let told = c.on_supplier.ensures in
     let a = c.args in
     let met : Marks (AtLink a.p a.k) a.bytes.now a.first.now a.p a.marks.now c.if-on_supplier.marks =
-        elim c.if-on_supplier.branch [
-          mark_suppliers-then-on_supplier w ↦ rw w.marks-is (link_taken_lem _ w.supplier.ensures (λ words. sym (told words) ∙ w.if-on_supplier.true) w.mark.ensures)
-        | mark_suppliers-else-on_supplier w ↦ rw w.marks-is (link_left (λ words. sym (told words) ∙ w.if-on_supplier.false))
-        ] in
+    elim c.if-on_supplier.branch [
+      | mark_suppliers-then-on_supplier w ↦ rw w.marks-is (link_taken_lem _ w.supplier.ensures (λ words. sym (told words) ∙ w.if-on_supplier.true) w.mark.ensures)
+      | mark_suppliers-else-on_supplier w ↦ rw w.marks-is (link_left (λ words. sym (told words) ∙ w.if-on_supplier.false))
+    ] in
     let left = rw (c.wide.ensures, c.row-next.ensures.0) at c.if-wide-k.false in
     marks_links a.k left met c.mark_suppliers.ensures
