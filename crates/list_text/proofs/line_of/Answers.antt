@@ -1,10 +1,11 @@
 -- `list_text::line_of` meets its contract. The invariant: among the lines that are left, counted on, the entry has those ahead of it that are
 -- still to be passed. Assumes nothing.
-use mathlib.Core.Path.{sym, ◌∙◌}
+use mathlib.Core.Bool.{true, false}
+use mathlib.Core.Path.{◌≡◌, sym, ◌∙◌}
 use native.Mathlib.Omega.{arith}
+use Rattle.list_text.specs.Texts.{is_of}
 use Rattle.list_text.proofs.Numbering.{looking_start, looking_on, looking_past, looking_here, looking_none}
 use Rattle.list_text.proofs.line_of.Goals as goal
-use Rattle.list_text.proofs.line_of.Goals.{then-is_of+else-ahead-eq0, else-is_of}
 
 -- the entry
 pub returns-then-ahead-eq0 : goal.returns-then-ahead-eq0
@@ -15,11 +16,9 @@ returns-then-ahead-eq0 c =
 pub loop-start-preserved : goal.loop-start-preserved
 loop-start-preserved c =
     let inv = c.loop-start.invariant in
-    let sort = sym c.is_of.ensures in
-    elim c.if-is_of.branch [
-      | then-is_of+else-ahead-eq0 w ↦ rw w.ahead-is (looking_past inv c.line_at-line.ensures (sort ∙ w.if-is_of.true) w.if-ahead-eq0.false)
-      | else-is_of w ↦ rw w.ahead-is (looking_on inv c.line_at-line.ensures (sort ∙ w.if-is_of.false))
-    ]
+    let past = λ (t : is_of c.args.link c.line_at-line.result.entry ≡ true) (z : c.loop-start.ahead ≡ 0 → ⊥). looking_past inv c.line_at-line.ensures t z in
+    let on = λ (t : is_of c.args.link c.line_at-line.result.entry ≡ false). looking_on inv c.line_at-line.ensures t in
+    grind (arith, past, on)
 
 -- the end of the text
 pub returns : goal.returns
