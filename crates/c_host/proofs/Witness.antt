@@ -6,7 +6,7 @@ use mathlib.Core.List.{List, [], ◌∷◌}
 use Prim.Native.Nat.{ℕ, ◌≤◌}
 use lib.IntN.{pos}
 use lib.ListN.{length, take}
-use denote.Ref.{Bor}
+use denote.Ref.{Bor, MutBor}
 use Rattle.model.specs.State.{load_of}
 use Rattle.model.specs.Feed.{Piece}
 use Rattle.saved_form.specs.Form.{FORM}
@@ -19,13 +19,16 @@ use Rattle.c_host.proofs.Calls.{LoadRead, FeedRead, load_call, feed_calls, deman
 abbrev lent : List ℕ → Bor (List ℕ)
 lent x = record { ref_ptr = (0, 0); now = x }
 
+abbrev lent_mut : List ℕ → MutBor (List ℕ)
+lent_mut x = record { ref_ptr = (0, 0); ghost_name = 0; now = x }
+
 abbrev load_reading : (c : LoadCall) → LoadMet c → LoadRead
 load_reading c m =
     record {
       κs = ([], ([], tt));
-      args = (lent c.table, (lent c.state, tt));
+      args = (lent c.table, (lent_mut c.state, tt));
       result = c.gave.result;
-      exit = (lent c.table, (lent c.gave.state, tt));
+      exit = (lent c.table, (lent_mut c.gave.state, tt));
       learnt = m;
     }
 
@@ -33,9 +36,9 @@ abbrev feed_reading : (c : FeedCall) → FeedMet c → FeedRead
 feed_reading c m =
     record {
       κs = ([], ([], ([], tt)));
-      args = (lent c.state, (lent c.piece.bytes, (lent c.piece.buffer, tt)));
+      args = (lent_mut c.state, (lent c.piece.bytes, (lent_mut c.piece.buffer, tt)));
       result = c.gave.result;
-      exit = (lent c.gave.state, (lent c.piece.bytes, (lent c.gave.replies, tt)));
+      exit = (lent_mut c.gave.state, (lent c.piece.bytes, (lent_mut c.gave.replies, tt)));
       learnt = m;
     }
 

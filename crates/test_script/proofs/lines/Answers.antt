@@ -1,5 +1,5 @@
 -- `test_script::lines` is safe and ends: each line starts after the one before it. Assumes nothing.
-use Rattle.std.proofs.Common.{◌-◌, arith}
+use Rattle.std.proofs.Common.{arith}
 use Rattle.test_script.proofs.lines.Goals as goal
 
 -- a scan from within the script stops within it

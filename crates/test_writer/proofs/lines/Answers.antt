@@ -1,5 +1,4 @@
 -- `test_writer::lines` is safe and ends: each line starts after the one before it. Assumes nothing.
-use Prim.Native.Nat.{◌-◌}
 use native.Mathlib.Omega.{arith}
 use Rattle.test_writer.proofs.lines.Goals as goal
 
