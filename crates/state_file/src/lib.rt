@@ -16,20 +16,19 @@ use replay_files::{files, printed};
 use saved_copy::copy_bytes;
 use saved_form::FORM;
 use std::fs;
-use std::fs::{Files, OpenFile, OpenOptions, Permissions};
+use std::fs::{Files, OpenFile, OpenOptions};
 use std::io::{Error, ErrorKind, Result, Write};
-use std::os::unix::fs::PermissionsExt;
+use std::os::unix::fs::OpenOptionsExt;
 use std::rt::Runtime;
 
 // How many names of new files are tried.
 const TRIES: u32 = 1_000_000;
 
 // Hands the library the bytes to be written, the form of the bench, and waits until they have reached the device. The bench is there to name
-// them. Nobody else may read the file.
+// them.
 fn store(file: &mut (impl Write + OpenFile), bench: Bench, bytes: &[u8]) -> Result<()>
     requires { bytes.now ≡ form (state_of bench) }
 {
-    file.set_permissions(Permissions::from_mode(0o600))?;
     file.write_all(bytes)?;
     file.sync_all()
 }
@@ -93,11 +92,12 @@ fn beside(path: &[u8], n: u32, new: &mut [u8]) -> usize
     within(length + mark.len(), new)
 }
 
-// Makes a file of that name, where there is none.
+// Makes a file of that name, where there is none. Nobody else may read it, from its first moment on.
 fn create<R: Files>(rt: &R, new: &[u8]) -> Result<R::File> {
     OpenOptions::new()
         .write(true)
         .create_new(true)
+        .mode(0o600)
         .open(rt, name(new)?)
 }
 
