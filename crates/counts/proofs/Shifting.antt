@@ -37,7 +37,7 @@ module _ (f g : ℕ → Bool) (key : ℕ → ℕ) (n i : ℕ) (up : Bool) (l : i
 
   -- the count at i's key is the next one, and the others stay
   tally_key : tally g key n (key i) ≡ next up (tally f key n (key i))
-  unfolding next when◌then◌else◌ ◌and◌
+  unfolding next when◌then◌else◌
   tally_key = go up (rw (eq-eqb (key i) (key i) refl) at (change (key i)))
     where
       go : (u : Bool) → tally f key n (key i) + bit (u and true) ≡ tally g key n (key i) + bit (not u and true) → tally g key n (key i) ≡ next u (tally f key n (key i))
@@ -45,7 +45,6 @@ module _ (f g : ℕ → Bool) (key : ℕ → ℕ) (n i : ℕ) (up : Bool) (l : i
       go false e = omega arith
 
   tally_other : (q : ℕ) → (q ≡ key i → ⊥) → tally g key n q ≡ tally f key n q
-  unfolding ◌and◌
   tally_other q ne = go up (rw (ne_eqb (key i) q (λ e. ne (sym e))) at (change q))
     where
       go : (u : Bool) → tally f key n q + bit (u and false) ≡ tally g key n q + bit (not u and false) → tally g key n q ≡ tally f key n q
@@ -112,7 +111,7 @@ mixed_turns s t up i f g same c =
 -- below i, then at i
 pub under_more : (t : ℕ → Bool) (up : Bool) (key : List ℕ) (n i : ℕ) (a b c : List ℕ) → Follows (under i t) up key n a b →
     Follows (only i t) up key n b c → Follows (under (i + 1) t) up key n a c
-unfolding under only mixed ◌and◌
+unfolding under only mixed
 under_more t up key n i a b c h k =
     record {
       follows =
@@ -150,12 +149,10 @@ not_of consumer flags p k ne = simp tests (λ e. absurd (ne e))
 
 -- ---- the status of one device
 and_on : (x y : Bool) → y ≡ true → x and y ≡ x
-unfolding ◌and◌
 and_on true y e = e
 and_on false y e = refl
 
 and_off : (x y : Bool) → y ≡ false → x and y ≡ false
-unfolding ◌and◌
 and_off true y e = e
 and_off false y e = refl
 

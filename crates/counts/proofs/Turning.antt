@@ -76,7 +76,7 @@ module _ (w : Wiring) (r : Ordered w) (p : ℕ) (up : Bool) where
   OfP = runtime_of w.consumer w.flags p
 
   step_follows : (i : ℕ) (col : List ℕ) → i < w.m → get_or w.consumer i 0 ≡ p → Follows (only i OfP) up w.supplier w.m col (link_step w up i col)
-  unfolding link_step runtime_of LINKS ◌and◌
+  unfolding link_step runtime_of LINKS
   step_follows i col l e =
       let few = r.links in
       let row : get_or w.supplier i 0 < ROWS = (let a = r.suppliers i l in let b = r.consumers i l in let c = few_rows r.devices in omega arith) in

@@ -29,29 +29,29 @@ use Rattle.list_laws.proofs.Bytes.{joined_same, joined_none, by_two, by_three}
 
 -- ---- the texts of numbers below 256 have no line feed: by computation over all of them
 numbers : all (λ x. plain (decimal x)) 256 ≡ true
-unfolding all plain ◌and◌ when◌then◌else◌ decimal digits_up_to
+unfolding all plain when◌then◌else◌ decimal digits_up_to
 numbers = refl
 
 number_plain : (x : ℕ) → x < 256 → plain (decimal x) ≡ true
 number_plain x l = (all_iff (λ x. plain (decimal x)) 256).0 numbers x l
 
 parents : all (λ x. plain (parent_text x)) 256 ≡ true
-unfolding all plain ◌and◌ when◌then◌else◌ decimal digits_up_to parent_text ascii
+unfolding all plain when◌then◌else◌ decimal digits_up_to parent_text ascii
 parents = refl
 
 parent_plain : (x : ℕ) → x < 256 → plain (parent_text x) ≡ true
 parent_plain x l = (all_iff (λ x. plain (parent_text x)) 256).0 parents x l
 
 part_front : plain (ascii "part ") ≡ true
-unfolding plain ◌and◌ ascii
+unfolding plain ascii
 part_front = refl
 
 link_front : plain (ascii "link ") ≡ true
-unfolding plain ◌and◌ ascii
+unfolding plain ascii
 link_front = refl
 
 blank : plain (ascii " ") ≡ true
-unfolding plain ◌and◌ ascii
+unfolding plain ascii
 blank = refl
 
 part_plain : (a b : ℕ) → a < 256 → b < 256 → plain (part_words a b) ≡ true

@@ -90,13 +90,13 @@ digit_range b e = let g = (and_iff (leb 48 b) (leb b 57)).0 e in (leb-true 48 b 
 -- a turn of the loop at byte i
 module _ (w : List ℕ) (i v : ℕ) (more : i < length w) where
   pub number_on : is_digit (get_or w i 0) ≡ true → number_after (capped (10 * v + (get_or w i 0 - 48))) (drop (i + 1) w) ≡ number_after v (drop i w)
-  unfolding number_after all_digits value_after ◌and◌
+  unfolding number_after all_digits value_after
   number_on e =
       let x = 10 * v + (get_or w i 0 - 48) in
       rw (add-one i, drop-cons w i 0 more, e, capped_before x (drop (suc i) w) (leb x 255) refl)
 
   pub number_stop : is_digit (get_or w i 0) ≡ false → number_after v (drop i w) ≡ UNREAD
-  unfolding number_after all_digits value_after ◌and◌ when◌then◌else◌
+  unfolding number_after all_digits value_after when◌then◌else◌
   number_stop e = rw (drop-cons w i 0 more, e)
 
 -- all digits read

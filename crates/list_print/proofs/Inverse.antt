@@ -33,11 +33,11 @@ good m e h = sym (judged_good e refl (omega arith))
 
 -- ---- the words before the numbers
 part_first : solid (ascii "part") ≡ true
-unfolding solid uncut stops is_blank ◌or◌ ◌and◌ ascii
+unfolding solid uncut stops is_blank ascii
 part_first = refl
 
 link_first : solid (ascii "link") ≡ true
-unfolding solid uncut stops is_blank ◌or◌ ◌and◌ ascii
+unfolding solid uncut stops is_blank ascii
 link_first = refl
 
 -- ---- a part
@@ -46,7 +46,7 @@ module _ (parent flags : ℕ) (p : parent < 256) (f : flags < 256) where
   part_list = parent_text parent ∷ decimal flags ∷ []
 
   part_solid : all_solid (ascii "part" ∷ part_list) ≡ true
-  unfolding part_list all_solid ◌and◌
+  unfolding part_list all_solid
   part_solid = rw (part_first, (parent_told parent p).word, (number_told_lem flags f).word)
 
   part_spaced : part_words parent flags ≡ ascii "part" ++ spaced part_list
@@ -57,7 +57,7 @@ module _ (parent flags : ℕ) (p : parent < 256) (f : flags < 256) where
   part_word k = rw part_spaced (words_back (ascii "part") part_list k part_solid)
 
   pub part_back : entry_in (part_words parent flags) ≡ Part parent flags
-  unfolding part_list entry_in part_in part_of ascii same ◌and◌ when◌then◌else◌
+  unfolding part_list entry_in part_in part_of ascii same when◌then◌else◌
   part_back =
       rw (part_word 0, part_word 3, part_word 1, part_word 2, (parent_told parent p).back, (number_told_lem flags f).back)
       (good (most parent flags) (Part parent flags) (most_below parent flags p f))
@@ -68,7 +68,7 @@ module _ (consumer supplier flags : ℕ) (c : consumer < 256) (s : supplier < 25
   link_list = decimal consumer ∷ decimal supplier ∷ decimal flags ∷ []
 
   link_solid : all_solid (ascii "link" ∷ link_list) ≡ true
-  unfolding link_list all_solid ◌and◌
+  unfolding link_list all_solid
   link_solid = rw (link_first, (number_told_lem consumer c).word) (rw (number_told_lem supplier s).word (rw (number_told_lem flags f).word))
 
   link_spaced : link_words consumer supplier flags ≡ ascii "link" ++ spaced link_list
@@ -79,7 +79,7 @@ module _ (consumer supplier flags : ℕ) (c : consumer < 256) (s : supplier < 25
   link_word k = rw link_spaced (words_back (ascii "link") link_list k link_solid)
 
   pub link_back : entry_in (link_words consumer supplier flags) ≡ Link consumer supplier flags
-  unfolding link_list entry_in link_in link_of ascii same ◌and◌ when◌then◌else◌
+  unfolding link_list entry_in link_in link_of ascii same when◌then◌else◌
   link_back =
       let rest = most_below supplier flags s f in
       rw (link_word 0, link_word 4, link_word 1, link_word 2, link_word 3)

@@ -19,11 +19,11 @@ test : (ℕ → List ℕ) → (List ℕ → ℕ) → ℕ → Bool
 test text read n = solid (text n) and eqb (read (text n)) n
 
 numbers : all (test decimal number_in) 256 ≡ true
-unfolding all test solid uncut stops is_blank ◌or◌ ◌and◌ when◌then◌else◌ decimal digits_up_to number_in all_digits is_digit value_after capped
+unfolding all test solid uncut stops is_blank when◌then◌else◌ decimal digits_up_to number_in all_digits is_digit value_after capped
 numbers = refl
 
 parents : all (test parent_text parent_in) 256 ≡ true
-unfolding all test solid uncut stops is_blank ◌or◌ ◌and◌ when◌then◌else◌ decimal digits_up_to number_in all_digits is_digit value_after capped parent_text parent_in ascii same
+unfolding all test solid uncut stops is_blank when◌then◌else◌ decimal digits_up_to number_in all_digits is_digit value_after capped parent_text parent_in ascii same
 parents = refl
 
 -- what the test says of each number

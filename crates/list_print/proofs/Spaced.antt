@@ -72,17 +72,17 @@ module _ (w : List ℕ) (ws : List (List ℕ)) (e : all_solid (w ∷ ws) ≡ tru
 
 -- a space is passed over
 pub space_first : (t : List ℕ) (k : ℕ) → word_at (32 ∷ t) k ≡ word_at t k
-unfolding word_at from stops is_blank ◌or◌ when◌then◌else◌
+unfolding word_at from stops is_blank when◌then◌else◌
 space_first t zero = refl
 space_first t (suc k) = refl
 
 ends : (ws : List (List ℕ)) → before Blank (spaced ws) ≡ []
-unfolding spaced before stops is_blank ◌or◌ when◌then◌else◌
+unfolding spaced before stops is_blank when◌then◌else◌
 ends [] = refl
 ends (w ∷ ws) = refl
 
 goes_on : (ws : List (List ℕ)) → from Blank (spaced ws) ≡ spaced ws
-unfolding spaced from stops is_blank ◌or◌ when◌then◌else◌
+unfolding spaced from stops is_blank when◌then◌else◌
 goes_on [] = refl
 goes_on (w ∷ ws) = refl
 

@@ -24,32 +24,26 @@ pub never : {A : Type 0} {x : Bool} → x ≡ true → x ≡ false → A
 never e f = let z : ◌≡◌ {A = ℕ} 0 1 = cc in absurd (omega arith)
 
 pub and_parts : (x y : Bool) → x and y ≡ true → (x ≡ true) × (y ≡ true)
-unfolding ◌and◌
 and_parts true y e = (refl, e)
 and_parts false y e = (e, cc)
 
 pub and_of : (x y : Bool) → x ≡ true → y ≡ true → x and y ≡ true
-unfolding ◌and◌
 and_of true y e f = f
 and_of false y e f = e
 
 pub or_cases : (x y : Bool) → x or y ≡ true → (x ≡ true) ⊎ (y ≡ true)
-unfolding ◌or◌
 or_cases true y e = inl refl
 or_cases false y e = inr e
 
 pub or_none : (x y : Bool) → x or y ≡ false → (x ≡ false) × (y ≡ false)
-unfolding ◌or◌
 or_none true y e = never refl e
 or_none false y e = (refl, e)
 
 pub or_left : (x y : Bool) → x ≡ true → x or y ≡ true
-unfolding ◌or◌
 or_left true y e = refl
 or_left false y e = cc
 
 pub or_right : (x y : Bool) → y ≡ true → x or y ≡ true
-unfolding ◌or◌
 or_right true y e = refl
 or_right false y e = e
 

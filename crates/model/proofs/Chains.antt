@@ -5,11 +5,9 @@ use borrow.Author.Tests.{not-true, not-false}
 use Rattle.model.specs.Logic.{◌and◌}
 
 pub and_go : {x y r : Bool} → x ≡ true → r ≡ y → r ≡ x and y
-unfolding ◌and◌
 and_go {x} {y} {r} e h = rw e h
 
 pub and_stop : {x : Bool} (y : Bool) → x ≡ false → false ≡ x and y
-unfolding ◌and◌
 and_stop {x} y e = rw e
 
 -- a test b that a function made

@@ -86,7 +86,7 @@ unfolding tally
 tally_has on key n i l e = count_has _ n i l (and_of (on i) _ e (eq-eqb (key i) (key i) refl))
 
 pub tally_none : (on : ℕ → Bool) (key : ℕ → ℕ) (n q : ℕ) → ((k : ℕ) → on k ≡ false) → tally on key n q ≡ 0
-unfolding tally ◌and◌
+unfolding tally
 tally_none on key n q h = count_none _ n (λ k. rw (h k))
 
 -- ---- the recounts

@@ -46,7 +46,7 @@ zero_column rows n most = record { long = length-replicate rows 0; used = λ p l
 
 -- ---- a state at rest, over any table that keeps the rules
 loaded_sound : (w : Wiring) → TableRules w → Sound (loaded w)
-unfolding loaded at_rest children_of linked_of child_count link_count is_child is_live ◌and◌
+unfolding loaded at_rest children_of linked_of child_count link_count is_child is_live
 loaded_sound w t =
     record {
       kept =
@@ -89,7 +89,7 @@ unfolding link_good link_fits ends_good
 link_facts t i e = let f = simp tests at e in record { consumer = f.0.0.0; supplier = f.0.0.1; flags = f.0.1; ascend = f.1 }
 
 next_ascends : (t : List ℕ) (i : ℕ) → ascends t (i + 1) ≡ true → before (link_byte t 0 i) (link_byte t 1 i) (link_byte t 0 (i + 1)) (link_byte t 1 (i + 1)) ≡ true
-unfolding ascends ◌or◌
+unfolding ascends
 next_ascends t i e = let z : i + 1 - 1 ≡ i = omega arith in rw (ne_eqb (i + 1) 0 (λ z. omega arith), z) at e
 
 module _ (t : List ℕ) (l : limits_good t ≡ true) (ds : (p : ℕ) → p < devices_in t → device_good t p ≡ true) (ls : (i : ℕ) → i < links_in t → link_good t i ≡ true) where
@@ -178,7 +178,7 @@ unfolding loaded at_rest
 load_carry t e = rw (load_taken t e)
 
 pub empty_unsound : sound_test empty_state ≡ false
-unfolding sound_test kept_test table_test empty_state at_rest ◌and◌
+unfolding sound_test kept_test table_test empty_state at_rest
 empty_unsound = refl
 
 -- ---- no pair of consumer and supplier stands twice

@@ -29,7 +29,6 @@ not_iff false = (λ e. refl, λ e. refl)
 
 -- unless x, y
 pub or_iff : (x y : Bool) → (x or y ≡ true) ↔ (x ≡ false → y ≡ true)
-unfolding ◌or◌
 or_iff true y = (λ e f. never refl f, λ f. refl)
 or_iff false y = (λ e f. e, λ f. f refl)
 
@@ -66,12 +65,10 @@ not_fails true = (λ e. refl, λ e. refl)
 not_fails false = (λ e. never refl e, λ e. never e refl)
 
 pub and_fails : (x y : Bool) → (x and y ≡ false) ↔ (x ≡ true → y ≡ false)
-unfolding ◌and◌
 and_fails true y = (λ e f. e, λ f. f refl)
 and_fails false y = (λ e f. never f refl, λ f. refl)
 
 pub or_fails : (x y : Bool) → (x or y ≡ false) ↔ ((x ≡ false) × (y ≡ false))
-unfolding ◌or◌
 or_fails true y = (λ e. never refl e, λ f. f.0)
 or_fails false y = (λ e. (refl, e), λ f. f.1)
 

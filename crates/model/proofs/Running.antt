@@ -102,13 +102,11 @@ record Moves (s : State) (p : ℕ) (up dn : Bool) (d : Done) : Type 0 where
   at : (q : ℕ) → holds_at d.state q + bit (eqb p q and dn and effective d.reply) ≡ holds_at s q + bit (eqb p q and up and effective d.reply)
 
 and_false : (x : Bool) → x and false ≡ false
-unfolding ◌and◌
 and_false true = refl
 and_false false = refl
 
 -- neither a get nor a put
 plain : {s : State} (p : ℕ) (d : Done) → d.state.devices.holds ≡ s.devices.holds → Moves s p false false d
-unfolding ◌and◌
 plain p d e = record { at = λ q. rw (e, and_false (eqb p q)) }
 
 -- a reply that does not count
@@ -118,7 +116,6 @@ idle_reply p up dn d e f = record { at = λ q. rw (e, f, and_false up, and_false
 module _ {s : State} (p : ℕ) (l : p < length s.devices.holds) (d : Done) (t : effective d.reply ≡ true) where
   -- the holds of p become v, up or down by one
   moved : (v : ℕ) (up dn : Bool) → v + bit dn ≡ holds_at s p + bit up → d.state.devices.holds ≡ set s.devices.holds p v → Moves s p up dn d
-  unfolding ◌and◌
   moved v up dn h e =
       record {
         at = λ q. rw (e, t, and_true up, and_true dn)
@@ -143,11 +140,11 @@ abbrev Counts : Done → Type 0
 Counts d = effective d.reply ≡ true
 
 wake_counts : (s : State) (p : ℕ) → Counts (wake s p)
-unfolding wake ask_resume effective ◌and◌
+unfolding wake ask_resume effective
 wake_counts s p = by_if Counts _ _ _ (λ e. refl) (λ e. by_if Counts _ _ _ (λ e. refl) (λ e. by_if Counts _ _ _ (λ e. refl) (λ e. by_if Counts _ _ _ (λ e. refl) (λ e. refl))))
 
 idle_counts : (s : State) (p : ℕ) → Counts (idle s p)
-unfolding idle suspend_test effective ◌and◌
+unfolding idle suspend_test effective
 idle_counts s p = by_if Counts _ _ _ (λ e. test) (λ e. by_if Counts _ _ _ (λ e. refl) (λ e. refl))
   where
     Code : ℕ → Type 0
@@ -162,11 +159,11 @@ module _ {s : State} (h : Sound s) (p : ℕ) (l : p < s.wiring.n) where
   row = let r = room s h.kept in let z = h.kept.holds.long in omega arith
 
   moves_get : Moves s p true false (get s p)
-  unfolding get effective ◌and◌
+  unfolding get effective
   moves_get = by_if (Moves s p true false) _ _ _ (λ e. idle_reply p true false _ refl refl) (λ e. moved p row _ refl _ true false (omega arith) refl)
 
   moves_get_wake : Moves s p true false (get_wake s p)
-  unfolding get_wake effective ◌and◌
+  unfolding get_wake effective
   moves_get_wake =
       by_if (Moves s p true false) _ _ _ (λ e. idle_reply p true false _ refl refl)
       (λ e.
@@ -174,13 +171,13 @@ module _ {s : State} (h : Sound s) (p : ℕ) (l : p < s.wiring.n) where
       moved p row _ (wake_counts t p) _ true false (omega arith) (on_wake (Same t) (same_stable t) refl p))
 
   moves_put : Moves s p false true (put s p)
-  unfolding put effective ◌and◌
+  unfolding put effective
   moves_put =
       by_if (Moves s p false true) _ _ _ (λ e. idle_reply p false true _ refl refl)
       (λ e. let z = eqb-false (holds_at s p) 0 e in moved p row _ refl _ false true (omega arith) refl)
 
   moves_put_idle : Moves s p false true (put_idle s p)
-  unfolding put_idle idle_unused effective ◌and◌
+  unfolding put_idle idle_unused effective
   moves_put_idle =
       by_if (Moves s p false true) _ _ _ (λ e. idle_reply p false true _ refl refl)
       (λ e.
@@ -200,7 +197,7 @@ module _ {s : State} (h : Sound s) (p : ℕ) (l : p < s.wiring.n) where
       neither a b f g = simp tests (apart a f.0 f.1, apart b g.0 g.1)
 
 moves_record : {s : State} → Sound s → (r : Rec) → Moves s r.device (is_get r.kind) (is_put r.kind) (record_step s r)
-unfolding effective ◌and◌ ◌or◌
+unfolding effective
 moves_record {s} h r =
     let p = r.device in
     by_record (Moves s p (is_get r.kind) (is_put r.kind))

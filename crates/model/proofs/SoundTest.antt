@@ -75,7 +75,7 @@ module _ (w : Wiring) (d : Devices) (e : kept_test w d ≡ true) where
 
   pub kept_unused : (p : ℕ) → w.n ≤ p → p < ROWS → get_or d.status p 0 ≡ SUSPENDED
   unfolding kept_test column_test
-  kept_unused p h l = let z = and_parts _ _ (and_parts _ _ e).1 in let f = simp tests at z.0 in (f p l).1 h
+  kept_unused p h l = let z = and_parts (column_test ROWS w.n SUSPENDING d.status) _ (and_parts _ _ e).1 in let f = simp tests at z.0 in (f p l).1 h
 
 module _ (s : State) (g : Shaped s) where
   table_iff : (table_test s.wiring ≡ true) ↔ TableRules s.wiring

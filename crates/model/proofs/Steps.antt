@@ -79,7 +79,7 @@ pub record Cases (P : Done → Type 0) (s : State) (r : Rec) : Type 0 where
 
 -- a kind that waits is not answered unless no callback is open
 not_busy : (s : State) (kind : ℕ) → (kind_of kind).always ≡ false → busy s kind ≡ false → s.callback.kind ≡ 0
-unfolding busy ◌and◌
+unfolding busy
 not_busy s kind w e =
     elim (ℕ_discrete s.callback.kind 0) [ yes y ↦ y | no n ↦ never {x = true} refl (rw (w, ne_eqb s.callback.kind 0 n) at e) ]
 

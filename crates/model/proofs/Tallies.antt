@@ -32,12 +32,10 @@ unfolding tally count
 tally_one on key k q = rw (add-one k)
 
 and_true : (x y : Bool) → y ≡ true → x and y ≡ x
-unfolding ◌and◌
 and_true true y e = e
 and_true false y e = refl
 
 and_false : (x y : Bool) → y ≡ false → x and y ≡ false
-unfolding ◌and◌
 and_false true y e = e
 and_false false y e = refl
 

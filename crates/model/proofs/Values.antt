@@ -28,11 +28,10 @@ flag_low v a =
 
 -- ---- only a result is answered while a callback is open: a test over the table
 only_result : all (λ k. eqb k RESULT or not (kind_of k).always) (LAST + 1) ≡ true
-unfolding all kinds ◌or◌ ◌and◌
+unfolding all kinds
 only_result = refl
 
 pub waits : (kind : ℕ) → kind ≤ LAST → (kind ≡ RESULT → ⊥) → (kind_of kind).always ≡ false
-unfolding ◌or◌
 waits kind h ne = let z = rw (ne_eqb kind RESULT ne) at ((all_iff _ (LAST + 1)).0 only_result kind (omega arith)) in not-true _ z
 
 -- ---- kind 13: 0, or the negative of 1 to 4,095

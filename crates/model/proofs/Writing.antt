@@ -32,12 +32,12 @@ twice = refl
 
 -- an entry that is begun is faulty
 begun : write_of (255 ∷ 0 ∷ 0 ∷ []) [] [] ≡ answer 6 1 []
-unfolding devices_given links_given counts_good device_fits faulty_device lists_answer write_of DEVICES LINKS when◌then◌else◌ ◌and◌ ◌or◌ first parent_good
+unfolding devices_given links_given counts_good device_fits faulty_device lists_answer write_of DEVICES LINKS when◌then◌else◌ first parent_good
 begun = refl
 
 -- no device at all is beyond the limits
 none : write_of [] [] [] ≡ answer 4 0 []
-unfolding devices_given links_given counts_good lists_answer write_of when◌then◌else◌ ◌and◌
+unfolding devices_given links_given counts_good lists_answer write_of when◌then◌else◌
 none = refl
 
 -- a byte too little of room

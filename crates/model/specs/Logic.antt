@@ -1,5 +1,5 @@
 -- Tests, and what is found, counted and listed by them: the words of the other files. Assumes nothing.
-use Rattle.std.specs.Prelude.{Bool, true, false, List, [], ◌∷◌, ℕ, zero, suc, ◌+◌, eqb}
+use Rattle.std.specs.Prelude.{Bool, ◌&&◌, ◌||◌, true, false, List, [], ◌∷◌, ℕ, zero, suc, ◌+◌, eqb}
 
 infixr 20 ◌and◌
 infixr 15 ◌or◌
@@ -9,13 +9,11 @@ unfoldable pub when◌then◌else◌ : {A : Type 0} → Bool → A → A → A
 when◌then◌else◌ true a b = a
 when◌then◌else◌ false a b = b
 
-unfoldable pub ◌and◌ : Bool → Bool → Bool
-◌and◌ true b = b
-◌and◌ false b = false
+abbrev pub ◌and◌ : Bool → Bool → Bool
+a and b = a && b
 
-unfoldable pub ◌or◌ : Bool → Bool → Bool
-◌or◌ true b = true
-◌or◌ false b = b
+abbrev pub ◌or◌ : Bool → Bool → Bool
+a or b = a || b
 
 unfoldable pub ◌implies◌ : Bool → Bool → Bool
 ◌implies◌ true b = b

@@ -23,7 +23,7 @@ pub low : (v : ℕ) → v < 32768 → to_z w16 v ≡ pos v
 low v l = rw (lt-ltb v 32768 l)
 
 pub signed_low : (v : ℕ) → v < 32768 → pos v ≡ signed v
-unfolding when◌then◌else◌ ◌and◌
+unfolding when◌then◌else◌
 signed_low v l = rw (lt-leb 32768 v l)
 
 pub less : (k : ℕ) → negsuc 0 -ℤ pos k ≡ negsuc k
@@ -31,7 +31,7 @@ less zero = refl
 less (suc k) = ap (λ n. negsuc (suc n)) (omega arith)
 
 pub signed_high : (v : ℕ) → 32768 ≤ v → v < 65536 → negsuc (65535 - v) ≡ signed v
-unfolding when◌then◌else◌ ◌and◌
+unfolding when◌then◌else◌
 signed_high v l h = rw (le-leb 32768 v l, lt-ltb v 65536 h, e)
   where
     e : 65536 - v ≡ suc (65535 - v)
@@ -84,7 +84,7 @@ always_at k = sym (mapped (λ (x : Kind). x.always) kinds k (plain zero_only))
 
 -- every kind allows 0: a test over the table
 zero_fits : all (λ k. allowed k 0) (LAST + 1) ≡ true
-unfolding all allowed kinds ◌and◌ when◌then◌else◌
+unfolding all allowed kinds when◌then◌else◌
 zero_fits = refl
 
 pub zero_allowed : (k v : ℕ) → k ≤ LAST → v ≡ 0 → true ≡ allowed k v
@@ -96,9 +96,9 @@ module _ (k v : ℕ) where
   row = get_or bounds_table k no_bounds
 
   pub allowed_no : lt_z (signed v) row.0 ≡ true → false ≡ allowed k v
-  unfolding allowed ◌and◌
+  unfolding allowed
   allowed_no e = rw (bounds_at k, flip_z row.0 (signed v), e)
 
   pub allowed_if : lt_z (signed v) row.0 ≡ false → le_z (signed v) row.1 ≡ allowed k v
-  unfolding allowed ◌and◌
+  unfolding allowed
   allowed_if e = rw (bounds_at k, flip_z row.0 (signed v), e)

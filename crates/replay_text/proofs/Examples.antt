@@ -7,25 +7,25 @@ use Rattle.replay_text.specs.Sizes.{is_digit, all_digits, value_after, size_afte
 use Rattle.replay_text.specs.declared.size.Size.TheVariants.{Wrong, Bytes}
 
 greatest : size_of (ascii "4096") ≡ Bytes 4096
-unfolding ascii when◌then◌else◌ ◌and◌ is_digit all_digits value_after size_after size_of
+unfolding ascii when◌then◌else◌ is_digit all_digits value_after size_after size_of
 greatest = refl
 
 zeros_in_front : size_of (ascii "00047") ≡ Bytes 47
-unfolding ascii when◌then◌else◌ ◌and◌ is_digit all_digits value_after size_after size_of
+unfolding ascii when◌then◌else◌ is_digit all_digits value_after size_after size_of
 zeros_in_front = refl
 
 too_great : size_of (ascii "4097") ≡ Wrong
-unfolding ascii when◌then◌else◌ ◌and◌ is_digit all_digits value_after size_after size_of
+unfolding ascii when◌then◌else◌ is_digit all_digits value_after size_after size_of
 too_great = refl
 
 zero_bytes : size_of (ascii "0") ≡ Wrong
-unfolding ascii when◌then◌else◌ ◌and◌ is_digit all_digits value_after size_after size_of
+unfolding ascii when◌then◌else◌ is_digit all_digits value_after size_after size_of
 zero_bytes = refl
 
 no_digits : size_of [] ≡ Wrong
-unfolding when◌then◌else◌ ◌and◌ all_digits value_after size_after size_of
+unfolding when◌then◌else◌ all_digits value_after size_after size_of
 no_digits = refl
 
 signed : size_of (ascii "+47") ≡ Wrong
-unfolding ascii when◌then◌else◌ ◌and◌ is_digit all_digits value_after size_after size_of
+unfolding ascii when◌then◌else◌ is_digit all_digits value_after size_after size_of
 signed = refl

@@ -40,11 +40,11 @@ digit_not b e h = not_if (is_digit b) (b - 48) (last b) (rw e at h)
 
 -- ---- one byte
 pub size_on : (v b : ℕ) (t : List ℕ) → is_digit b ≡ true → size_after v (b ∷ t) ≡ size_after (10 * v + (b - 48)) t
-unfolding size_after all_digits value_after ◌and◌
+unfolding size_after all_digits value_after
 size_on v b t e = rw e
 
 pub size_stop : (v b : ℕ) (t : List ℕ) → is_digit b ≡ false → size_after v (b ∷ t) ≡ Wrong
-unfolding size_after all_digits value_after ◌and◌ when◌then◌else◌
+unfolding size_after all_digits value_after when◌then◌else◌
 size_stop v b t e = rw e
 
 -- ---- a value only grows
@@ -54,7 +54,7 @@ grows v [] = omega arith
 grows v (b ∷ t) = let i = grows (10 * v + (b - 48)) t in omega arith
 
 either_wrong : (a b : Bool) (s : Size) → (when a and b and false then s else Wrong) ≡ Wrong
-unfolding ◌and◌ when◌then◌else◌
+unfolding when◌then◌else◌
 either_wrong true true s = refl
 either_wrong true false s = refl
 either_wrong false b s = refl
@@ -67,11 +67,11 @@ size_large v t h =
 
 -- ---- the end
 pub size_none : size_after 0 [] ≡ Wrong
-unfolding size_after all_digits value_after ◌and◌ when◌then◌else◌
+unfolding size_after all_digits value_after when◌then◌else◌
 size_none = refl
 
 pub size_end : (v : ℕ) → 1 ≤ v → v ≤ 4096 → size_after v [] ≡ Bytes v
-unfolding size_after all_digits value_after ◌and◌ when◌then◌else◌
+unfolding size_after all_digits value_after when◌then◌else◌
 size_end v l h = rw (le-leb 1 v l, le-leb v 4096 h)
 
 -- ---- a turn of the loop at byte i, whose digit is d

@@ -30,14 +30,14 @@ module _ {s : State} {first : List ℕ} (h : Indexed s first) (p : ℕ) (l : p <
 
   -- one of the links of p has its supplier down
   pub down_met : (i : ℕ) → get_or first p 0 ≤ i → i < get_or first (p + 1) 0 → link_down s i ≡ true → true ≡ supplier_down s p
-  unfolding supplier_down link_down ◌and◌
+  unfolding supplier_down link_down
   down_met i a b e =
       let o = link_of h.ready.rules.order p i (rw from_first at a) (rw to_next at b) in
       sym (any_of _ s.wiring.m i o.0 (rw (eq-eqb _ _ o.1) e))
 
   -- none has
   pub down_none : ((i : ℕ) → get_or first p 0 ≤ i → i < get_or first (p + 1) 0 → link_down s i ≡ false) → false ≡ supplier_down s p
-  unfolding supplier_down link_down ◌and◌
+  unfolding supplier_down link_down
   down_none none =
       sym ((any_fails _ s.wiring.m).1
       (λ i b.
@@ -47,12 +47,10 @@ module _ {s : State} {first : List ℕ} (h : Indexed s first) (p : ℕ) (l : p <
       ]))
 
 pub or_last : (x : Bool) {y : Bool} → y ≡ true → true ≡ x or y
-unfolding ◌or◌
 or_last true e = refl
 or_last false e = sym e
 
 pub or_rest : (x : Bool) {y r : Bool} → y ≡ false → r ≡ x → r ≡ x or y
-unfolding ◌or◌
 or_rest true e h = h
 or_rest false {y} {r} e h = rw e h
 
@@ -61,7 +59,7 @@ module _ (s : State) (p : ℕ) where
   module _ (stopped : running s p ≡ false) where
     module _ {a b : State} (keep : b ≡ with_error a p 0) where
       pub active_set : parent_down s p ≡ false → supplier_down s p ≡ false → a ≡ with_status s p ACTIVE → set_active s p ≡ finished b p 0
-      unfolding set_active when◌then◌else◌ ◌or◌
+      unfolding set_active when◌then◌else◌
       active_set e f set = rw (keep, set, stopped, e, f)
 
       pub suspended_set : needed s p ≡ false → a ≡ with_status s p SUSPENDED → set_suspended s p ≡ finished b p 0
@@ -70,13 +68,13 @@ module _ (s : State) (p : ℕ) where
 
   module _ (v : ℕ) where
     pub ignore_on : {b : State} → v ≤ 1 → 0 < v → b ≡ with_ignore s p 1 → ignore_children s p v ≡ finished b p 0
-    unfolding ignore_children when◌then◌else◌ ◌and◌
+    unfolding ignore_children when◌then◌else◌
     ignore_on few some keep = let e : v ≡ 1 = omega arith in rw (keep, e)
 
     pub ignore_busy : v ≤ 0 → inactive_with_children s p ≡ true → ignore_children s p v ≡ finished s p (minus EBUSY)
-    unfolding ignore_children inactive_with_children when◌then◌else◌ ◌and◌
+    unfolding ignore_children inactive_with_children when◌then◌else◌
     ignore_busy none e = let z : v ≡ 0 = omega arith in rw (z, e)
 
     pub ignore_off : {b : State} → v ≤ 0 → inactive_with_children s p ≡ false → b ≡ with_ignore s p 0 → ignore_children s p v ≡ finished b p 0
-    unfolding ignore_children inactive_with_children when◌then◌else◌ ◌and◌
+    unfolding ignore_children inactive_with_children when◌then◌else◌
     ignore_off none e keep = let z : v ≡ 0 = omega arith in rw (keep, z, e)

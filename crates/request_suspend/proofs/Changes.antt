@@ -158,7 +158,7 @@ module _ {kind p code : ℕ} {first bytes₀ words₀ words₁ : List ℕ} (begu
   -- kind 6 ends with its put
   pub slept_stop : (r : Reply) → r ≡ record { kind = 0; device = p; code = code } → ends kind (state_in bytes₀ words₁) p code ≡ true
       → LetsSleep kind first bytes₀ words₀ p bytes₀ words₁ r
-  unfolding still_used ◌or◌
+  unfolding still_used
   slept_stop r told stop =
       elim (ℕ_discrete code 0) [
         | yes z ↦
@@ -175,7 +175,7 @@ module _ {kind p code : ℕ} {first bytes₀ words₀ words₁ : List ℕ} (begu
   -- it goes on, and so do the kinds without a put
   pub slept_go : {bytes words : List ℕ} {r : Reply} → ends kind (state_in bytes₀ words₁) p code ≡ false
       → Rests (ltb kind 8) first bytes₀ words₁ p bytes words r → LetsSleep kind first bytes₀ words₀ p bytes words r
-  unfolding still_used ◌and◌
+  unfolding still_used
   slept_go {bytes} {words} {r} going on =
       let free = or_none _ _ going in
       elim (ℕ_discrete kind 6) [

@@ -57,7 +57,7 @@ module _ {s : State} (h : Sound s) where
       ap words_from (ap (take (4 * WORDS)) form_rest ∙ take_all (4 * WORDS) (word_bytes (words_of s)) (omega arith)) ∙ words_back (words_of s) (words_low h)
 
   form_marked : marked (form s) ≡ true
-  unfolding marked form header ◌and◌
+  unfolding marked form header
   form_marked = refl
 
   form_version : version_in (form s) ≡ 1

@@ -37,7 +37,7 @@ module _ (s : State) (t : ℕ) where
 
   -- none is
   clear_if : t < s.wiring.n → in_wake s t t ≡ true → others_barred s t ≡ false → not (barred s t) ≡ members_clear s t
-  unfolding others_barred members_clear ◌implies◌ ◌and◌
+  unfolding others_barred members_clear ◌implies◌
   clear_if l m e = go (barred s t) refl
     where
       fails : (q : ℕ) → q < s.wiring.n → (in_wake s t q and not (eqb q t) and barred s q) ≡ false
@@ -73,7 +73,6 @@ module _ (s : State) (t : ℕ) where
         (wake_iff s order t l t).1 (self (elim (dec_lt (status_at s t) 2) [ yes y ↦ y | no g ↦ absurd (powered_empty (omega arith) m) ]))
 
     pub clear_both : (found : Bool) → found ≡ others_barred s t → (not found and not (barred s t)) ≡ members_clear s t
-    unfolding ◌and◌
     clear_both true e = clear_not (sym e)
     clear_both false e = clear_if l target_in (sym e)
 

@@ -25,7 +25,6 @@ pub fit_of : (s : State) {a : Bool} {n k m j : ℕ} → n ≡ k → m ≡ j → 
 fit_of s e f h = rw (e, f) at h
 
 and_assoc : (x y z : Bool) → (x and y) and z ≡ x and (y and z)
-unfolding ◌and◌
 and_assoc true y z = refl
 and_assoc false y z = refl
 
@@ -60,17 +59,17 @@ devices_parts w v ea eb ec ed ee ef eg eh e1 e2 e3 e4 e5 e6 er = rw (er, e6, e3,
 -- the exits of `well_kept`
 module _ (w : Wiring) (v : Devices) where
   pub kept_none : w.n < 1 → false ≡ kept_test w v
-  unfolding kept_test table_test ◌and◌
+  unfolding kept_test table_test
   kept_none l = rw (lt-leb _ _ l)
 
   pub kept_many : 1 ≤ w.n → DEVICES < w.n → false ≡ kept_test w v
-  unfolding kept_test table_test ◌and◌
+  unfolding kept_test table_test
   kept_many a l = rw (le-leb _ _ a, lt-leb _ _ l)
 
   pub kept_linked : 1 ≤ w.n → w.n ≤ DEVICES → LINKS < w.m → false ≡ kept_test w v
-  unfolding kept_test table_test ◌and◌
+  unfolding kept_test table_test
   kept_linked a b l = rw (le-leb _ _ a, le-leb _ _ b, lt-leb _ _ l)
 
   pub kept_all : {x y r : Bool} → 1 ≤ w.n → w.n ≤ DEVICES → w.m ≤ LINKS → x ≡ wiring_test w → y ≡ devices_test w v → r ≡ (x and y) → r ≡ kept_test w v
-  unfolding kept_test table_test wiring_test devices_test ◌and◌ ascends_in
+  unfolding kept_test table_test wiring_test devices_test ascends_in
   kept_all a b l e f g = rw (le-leb _ _ a, le-leb _ _ b, le-leb _ _ l) (rw (e, f) at g)

@@ -28,15 +28,15 @@ more f n h e k l =
 
 -- a link is good where it fits and ascends
 pub good_link : (t : List ℕ) (i : ℕ) → link_fits t i ≡ true → ascends t i ≡ true → link_good t i ≡ true
-unfolding link_good ◌and◌
+unfolding link_good
 good_link t i e f = rw e f
 
 pub misfit : (t : List ℕ) (i : ℕ) → link_fits t i ≡ false → link_good t i ≡ false
-unfolding link_good ◌and◌
+unfolding link_good
 misfit t i e = rw e
 
 pub descends : (t : List ℕ) (i : ℕ) → link_fits t i ≡ true → ascends t i ≡ false → link_good t i ≡ false
-unfolding link_good ◌and◌
+unfolding link_good
 descends t i e f = rw e f
 
 module _ {t : List ℕ} {n m p i : ℕ} (h : Passed t n m p i) where

@@ -48,7 +48,6 @@ adds_then j k =
 -- ---- one device
 -- a device that the test chose and that is not lower
 not_lower : (on : Bool) (p low q : ℕ) → on and ltb p low ≡ false → Chosen on p q → low ≤ q
-unfolding ◌and◌
 not_lower on p low q n c = rw c.is (ltb-false p low (rw c.holds at n))
 
 -- a store of a mark: on where the test holds or it was on

@@ -23,7 +23,6 @@ any_more f n = rw (add-one n)
 
 module _ {bytes words : List ℕ} {ms : List Bool} {low : ℕ} where
   pub heard_start : HeardFrom bytes words ms low low false
-  unfolding ◌and◌
   heard_start = record { is = λ l none. sym ((any_fails _ low).1 (λ j b. rw (none j b))) }
 
   pub heard_more : {q : ℕ} {found : Bool} → low ≤ q → HeardFrom bytes words ms low q found →

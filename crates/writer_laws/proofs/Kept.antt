@@ -71,7 +71,7 @@ module _ (t : List ℕ) (h : Rules t) where
   small k l = let b = bytes k l in omega arith
 
   next : (k : ℕ) → suc k < links_in t → pair_in t k < pair_in t (suc k)
-  unfolding pair_in ascends ◌or◌
+  unfolding pair_in ascends
   next k l =
       let a = bytes k (omega arith) in
       let b = bytes (suc k) l in

@@ -87,7 +87,7 @@ module _ {devices links : List ℕ} (h : Given devices links) where
       ]))
 
   rises : (k : ℕ) → k < links_given links → ascends (table_of devices links) k ≡ true
-  unfolding ascends ◌or◌
+  unfolding ascends
   rises zero l = refl
   rises (suc k) l =
       let v = stood k (omega arith) in
@@ -99,7 +99,7 @@ module _ {devices links : List ℕ} (h : Given devices links) where
       rw (ne_eqb (suc k) 0 (λ z. omega arith), e, ← s.consumer, ← s.supplier, ← r.consumer, ← r.supplier) (in_order_lem v.0 w.0 v.1 w.1 (rw (v.2, w.2) a))
 
   links_good : (k : ℕ) → k < links_given links → link_good (table_of devices links) k ≡ true
-  unfolding link_good ◌and◌
+  unfolding link_good
   links_good k l = rw (fits k l) (rises k l)
 
   devices_good : (p : ℕ) → p < devices_given devices → device_good (table_of devices links) p ≡ true
@@ -116,7 +116,7 @@ module _ {devices links : List ℕ} (h : Given devices links) where
       eq-eqb (length (table_of devices links)) (7 + 2 * devices_in (table_of devices links) + 3 * links_in (table_of devices links)) (omega arith)
 
   pub made_taken : Rules (table_of devices links)
-  unfolding mark_good version_good limits_good counts_good ◌and◌ table_of
+  unfolding mark_good version_good limits_good counts_good table_of
   made_taken =
       let t = table_long devices links in
       record {

@@ -10,19 +10,19 @@ use Rattle.model.specs.Writing.{devices_given, links_given, counts_good, device_
 
 -- ---- the limits
 pub none : (n m : ℕ) → n < 1 → counts_good n m ≡ false
-unfolding counts_good ◌and◌
+unfolding counts_good
 none n m l = rw (lt-leb 1 n l)
 
 pub many_devices : (n m : ℕ) → 1 ≤ n → DEVICES < n → counts_good n m ≡ false
-unfolding counts_good ◌and◌
+unfolding counts_good
 many_devices n m a l = rw (le-leb 1 n a, lt-leb n DEVICES l)
 
 pub many_links : (n m : ℕ) → 1 ≤ n → n ≤ DEVICES → LINKS < m → counts_good n m ≡ false
-unfolding counts_good ◌and◌
+unfolding counts_good
 many_links n m a b l = rw (le-leb 1 n a, le-leb n DEVICES b, lt-leb m LINKS l)
 
 pub counts_fit : (n m : ℕ) → 1 ≤ n → n ≤ DEVICES → m ≤ LINKS → counts_good n m ≡ true
-unfolding counts_good ◌and◌
+unfolding counts_good
 counts_fit n m a b l = rw (le-leb 1 n a, le-leb n DEVICES b, le-leb m LINKS l)
 
 module _ (devices links : List ℕ) where

@@ -30,13 +30,13 @@ module _ {good : ℕ → Bool} {n p : ℕ} (h : Passed good n p) where
 -- ---- a link is taken where it is whole and repeats none
 module _ (n : ℕ) (links : List ℕ) (i : ℕ) where
   pub not_whole : link_whole n links i ≡ false → link_taken n links i ≡ false
-  unfolding link_taken ◌and◌
+  unfolding link_taken
   not_whole e = rw e
 
   pub a_repeat : link_whole n links i ≡ true → repeats links i ≡ true → link_taken n links i ≡ false
-  unfolding link_taken ◌and◌
+  unfolding link_taken
   a_repeat e f = rw (e, f)
 
   pub no_repeat : link_whole n links i ≡ true → repeats links i ≡ false → link_taken n links i ≡ true
-  unfolding link_taken ◌and◌
+  unfolding link_taken
   no_repeat e f = rw (e, f)

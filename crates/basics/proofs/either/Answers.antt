@@ -4,10 +4,8 @@ use Rattle.basics.proofs.either.Goals as goal
 
 -- the first holds
 pub returns-then-a : goal.returns-then-a
-unfolding ◌or◌
 returns-then-a c = rw c.if-a.true
 
 -- it does not
 pub returns-else-a : goal.returns-else-a
-unfolding ◌or◌
 returns-else-a c = rw c.if-a.false

@@ -10,18 +10,18 @@ use Rattle.record_kinds.proofs.busy.Goals as goal
 
 -- none is open
 pub returns-then-callback-eq0 : goal.returns-then-callback-eq0
-unfolding busy ◌and◌
+unfolding busy
 returns-then-callback-eq0 c = λ words. rw (← c.callback.ensures words, eq-eqb c.callback.result 0 c.if-callback-eq0.true)
 
 -- one is open, and there is no such kind
 pub returns-then-kind-ge-KINDS : goal.returns-then-kind-ge-KINDS
-unfolding busy ◌and◌
+unfolding busy
 returns-then-kind-ge-KINDS c =
     λ words.
     rw (← c.callback.ensures words, ne_eqb c.callback.result 0 c.if-callback-eq0.false, always_at _, get_or-eq_default always_table false c.if-kind-ge-KINDS.true)
 
 -- one is open
 pub returns : goal.returns
-unfolding busy ◌and◌
+unfolding busy
 returns c =
     λ words. rw (← c.callback.ensures words, ne_eqb c.callback.result 0 c.if-callback-eq0.false, always_at _)

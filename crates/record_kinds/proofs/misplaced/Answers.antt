@@ -5,10 +5,8 @@ use Rattle.record_kinds.proofs.misplaced.Goals as goal
 
 -- a kind about the whole bench
 pub returns-then-kind : goal.returns-then-kind
-unfolding ◌and◌
 returns-then-kind c = rw (whole_at, c.if-kind.true)
 
 -- a kind about one device
 pub returns : goal.returns
-unfolding ◌and◌
 returns c = rw (whole_at, c.if-kind.false)

@@ -6,10 +6,10 @@ use Rattle.request_set.proofs.inactive_with_children.Goals as goal
 
 -- it is active
 pub returns-then-status-eq-ACTIVE : goal.returns-then-status-eq-ACTIVE
-unfolding inactive_with_children ◌and◌
+unfolding inactive_with_children
 returns-then-status-eq-ACTIVE c = λ words. rw (← c.status.ensures words, eq-eqb _ _ c.if-status-eq-ACTIVE.true)
 
 -- it is not: the children decide
 pub returns : goal.returns
-unfolding inactive_with_children ◌and◌
+unfolding inactive_with_children
 returns c = λ words. rw (← c.status.ensures words, ne_eqb _ _ c.if-status-eq-ACTIVE.false, ← c.children.ensures words)

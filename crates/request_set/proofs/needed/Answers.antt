@@ -13,12 +13,12 @@ returns-then-linked-gt0 c = or_last _ (rw (← c.linked.ensures) (lt-ltb _ _ c.i
 
 -- it has no powered child
 pub returns-then-children-lt1 : goal.returns-then-children-lt1
-unfolding needed ◌and◌
+unfolding needed
 returns-then-children-lt1 c =
     or_rest _ (rw (← c.linked.ensures) (le-ltb _ _ c.if-linked-gt0.false)) (rw (← c.children.ensures, not_above _ c.if-children-lt1.true))
 
 -- it has, and they count or not
 pub returns : goal.returns
-unfolding needed ◌and◌
+unfolding needed
 returns c =
     or_rest _ (rw (← c.linked.ensures) (le-ltb _ _ c.if-linked-gt0.false)) (rw (← c.children.ensures, lt-ltb 0 _ c.if-children-lt1.false, ← c.ignore.ensures))

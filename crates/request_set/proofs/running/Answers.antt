@@ -6,10 +6,10 @@ use Rattle.request_set.proofs.running.Goals as goal
 
 -- it is disabled
 pub returns-then-depth-ne0 : goal.returns-then-depth-ne0
-unfolding running ◌and◌
+unfolding running
 returns-then-depth-ne0 c = rw (← c.depth.ensures, ne_eqb _ _ c.if-depth-ne0.true)
 
 -- it is enabled: the error decides
 pub returns : goal.returns
-unfolding running ◌and◌
+unfolding running
 returns c = rw (← c.depth.ensures, eq-eqb _ _ c.if-depth-ne0.false, ← c.error.ensures)

@@ -14,13 +14,13 @@ returns-then-running c = record { is = λ h l. rw (← c.running.ensures, c.if-r
 
 -- its parent is down
 pub returns-then-parent_down : goal.returns-then-parent_down
-unfolding set_active when◌then◌else◌ ◌or◌
+unfolding set_active when◌then◌else◌
 returns-then-parent_down c =
     record { is = λ h l. rw (← c.running.ensures, c.if-running.false, ← c.parent_down.ensures, c.if-parent_down.true, c.finished-then-parent_down.ensures); stays = λ f. refl }
 
 -- a supplier is down
 pub returns-then-supplier_down : goal.returns-then-supplier_down
-unfolding set_active when◌then◌else◌ ◌or◌
+unfolding set_active when◌then◌else◌
 returns-then-supplier_down c =
     record {
       is =

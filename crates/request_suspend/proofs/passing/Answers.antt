@@ -5,9 +5,9 @@ use Rattle.request_suspend.specs.Parts.{passing}
 use Rattle.request_suspend.proofs.passing.Goals as goal
 
 pub returns-then-v-eq-EAGAIN : goal.returns-then-v-eq-EAGAIN
-unfolding passing ◌or◌
+unfolding passing
 returns-then-v-eq-EAGAIN c = simp (eq-eqb _ _ c.if-v-eq-EAGAIN.true)
 
 pub returns : goal.returns
-unfolding passing ◌or◌
+unfolding passing
 returns c = simp (ne_eqb _ _ c.if-v-eq-EAGAIN.false)

@@ -5,9 +5,9 @@ use Rattle.model.specs.Table.{parent_good}
 use Rattle.sound_rules.proofs.parent_good.Goals as goal
 
 pub returns-then-parent-eq-NONE : goal.returns-then-parent-eq-NONE
-unfolding parent_good ◌or◌
+unfolding parent_good
 returns-then-parent-eq-NONE c = simp (eq-eqb _ _ c.if-parent-eq-NONE.true)
 
 pub returns : goal.returns
-unfolding parent_good ◌or◌
+unfolding parent_good
 returns c = simp (ne_eqb _ _ c.if-parent-eq-NONE.false)

@@ -6,15 +6,15 @@ use Rattle.table.proofs.comes_before.Goals as goal
 
 -- the consumer is lower
 pub returns-then-c-c2 : goal.returns-then-c-c2
-unfolding before ◌and◌ ◌or◌
+unfolding before
 returns-then-c-c2 c = simp (lt-ltb _ _ c.if-c-c2.true)
 
 -- the same consumer: the suppliers tell
 pub returns-then-c-c2-2 : goal.returns-then-c-c2-2
-unfolding before ◌and◌ ◌or◌
+unfolding before
 returns-then-c-c2-2 c = simp (le-ltb _ _ c.if-c-c2.false, eq-eqb _ _ c.if-c-c2-2.true)
 
 -- the consumer is higher
 pub returns : goal.returns
-unfolding before ◌and◌ ◌or◌
+unfolding before
 returns c = simp (le-ltb _ _ c.if-c-c2.false, ne_eqb _ _ c.if-c-c2-2.false)

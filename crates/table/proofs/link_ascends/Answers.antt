@@ -6,12 +6,12 @@ use Rattle.table.proofs.link_ascends.Goals as goal
 
 -- the first link
 pub returns-then-i-eq0 : goal.returns-then-i-eq0
-unfolding ascends ◌or◌
+unfolding ascends
 returns-then-i-eq0 c = rw (eq-eqb _ _ c.if-i-eq0.true)
 
 -- the link before it tells
 pub returns : goal.returns
-unfolding ascends ◌or◌
+unfolding ascends
 returns c =
     rw (ne_eqb _ _ c.if-i-eq0.false, ← c.link_byte-c.ensures, ← c.link_byte-s.ensures, ← c.link_byte.ensures, ← c.link_byte-2.ensures)
     c.comes_before.ensures

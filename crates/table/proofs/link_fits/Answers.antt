@@ -6,14 +6,14 @@ use Rattle.table.proofs.link_fits.Goals as goal
 
 -- the ends are wrong
 pub returns-then-not-ends_good : goal.returns-then-not-ends_good
-unfolding link_fits ◌and◌
+unfolding link_fits
 returns-then-not-ends_good c =
     let ends = not-true c.ends_good.result c.if-not-ends_good.true-raw in
     rw (← c.link_byte.ensures, ← c.link_byte-2.ensures, ← c.byte_at.ensures, ← c.ends_good.ensures, ends)
 
 -- the flags tell
 pub returns : goal.returns
-unfolding link_fits ◌and◌
+unfolding link_fits
 returns c =
     let ends = not-false c.ends_good.result c.if-not-ends_good.false-raw in
     rw (← c.link_byte.ensures, ← c.link_byte-2.ensures, ← c.link_byte-3.ensures, ← c.byte_at.ensures, ← c.ends_good.ensures, ends)

@@ -6,10 +6,10 @@ use Rattle.table_entries.proofs.ends_good.Goals as goal
 
 -- the consumer is no device
 pub returns-then-n-consumer : goal.returns-then-n-consumer
-unfolding ends_good ◌and◌
+unfolding ends_good
 returns-then-n-consumer c = simp (le-ltb _ _ c.if-n-consumer.true)
 
 -- the supplier is lower than the consumer, or not
 pub returns : goal.returns
-unfolding ends_good ◌and◌
+unfolding ends_good
 returns c = simp (lt-ltb _ _ c.if-n-consumer.false)

@@ -17,18 +17,18 @@ whole e = let w = e.wide8.ensures in lt-ltb (2 * e.args.p + 1) (length e.args.de
 
 -- the entry is not whole
 pub returns-then-devices-wide8 : goal.returns-then-devices-wide8
-unfolding device_fits ◌and◌
+unfolding device_fits
 returns-then-devices-wide8 c = rw (← c.wide8.ensures, le-ltb _ _ c.if-devices-wide8.true)
 
 -- the parent breaks its rule
 pub returns-then-not-parent_good : goal.returns-then-not-parent_good
-unfolding device_fits ◌and◌
+unfolding device_fits
 returns-then-not-parent_good c =
     rw (whole (goal.at.returns-then-not-parent_good c).Else-devices-wide8, ← c.device_field.ensures, ← c.parent_good.ensures, not-true c.parent_good.result c.if-not-parent_good.true-raw)
 
 -- the flags decide
 pub returns : goal.returns
-unfolding device_fits ◌and◌
+unfolding device_fits
 returns c =
     rw (
       whole (goal.at.returns c).Else-devices-wide8,

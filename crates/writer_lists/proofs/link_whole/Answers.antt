@@ -17,12 +17,12 @@ whole e = let w = e.wide.ensures in lt-ltb (3 * e.args.i + 2) (length e.args.lin
 
 -- the entry is not whole
 pub returns-then-links-wide : goal.returns-then-links-wide
-unfolding link_whole ◌and◌
+unfolding link_whole
 returns-then-links-wide c = rw (← c.wide.ensures, le-ltb _ _ c.if-links-wide.true)
 
 -- the ends break their rule
 pub returns-then-not-ends_good : goal.returns-then-not-ends_good
-unfolding link_whole ◌and◌
+unfolding link_whole
 returns-then-not-ends_good c =
     rw (
       whole (goal.at.returns-then-not-ends_good c).Else-links-wide,
@@ -34,7 +34,7 @@ returns-then-not-ends_good c =
 
 -- the flags decide
 pub returns : goal.returns
-unfolding link_whole ◌and◌
+unfolding link_whole
 returns c =
     rw (
       whole (goal.at.returns c).Else-links-wide,
