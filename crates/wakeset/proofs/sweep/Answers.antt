@@ -33,8 +33,8 @@ begins : (c : After-pass-low) → let a = c.args in
     Swept (state_in a.bytes.now words) a.first.now a.t a.t c.pass-low.new.marks c.pass-low.result
 unfolding ROWS
 begins c words none z =
-    let marked = c.pass-low.ensures.is words (rw none (length-set (replicate ROWS false) c.row.result true ∙ length-replicate ROWS false)) in
-    swept_start _ _ _ (omega arith) (omega arith) z (rw (c.row.ensures.0, none) at marked)
+    let marked = c.pass-low.ensures.is words (rw none (length-set (replicate ROWS false) c.from.result true ∙ length-replicate ROWS false)) in
+    swept_start _ _ _ (omega arith) (omega arith) z (rw (c.from.ensures, none) at marked)
 
 -- request Two: at each turn the marked devices among those passed are exactly the wake set's
 pub each_step : (c : At-loop-low) → let a = c.args in
@@ -44,20 +44,12 @@ pub each_step : (c : At-loop-low) → let a = c.args in
 unfolding ROWS
 each_step c words h l none z =
     let a = c.args in
-    let marked = c.pass-low.ensures.is words (rw none (length-set (replicate ROWS false) c.row.result true ∙ length-replicate ROWS false)) in
+    let marked = c.pass-low.ensures.is words (rw none (length-set (replicate ROWS false) c.from.result true ∙ length-replicate ROWS false)) in
     let begun : Swept (state_in a.bytes.now words) a.first.now a.t a.t c.pass-low.new.marks c.pass-low.result =
-    swept_start _ _ _ (omega arith) (omega arith) z (rw (c.row.ensures.0, none) at marked) in
+    swept_start _ _ _ (omega arith) (omega arith) z (rw (c.from.ensures, none) at marked) in
     exact h l (c.loop-low.invariant.1 words begun)
 
 -- the lowest mark is reached
 pub returns : goal.returns
 returns c =
     record { is = λ words none z. swept_end c.loop-low-test.false (c.loop-low.invariant.1 words (begins (goal.at.returns c).After-pass-low words none z)) }
-
-pub overflow_sub-q : goal.overflow_sub-q
-unfolding ROWS
-overflow_sub-q c = omega arith
-
-pub loop-low-smaller : goal.loop-low-smaller
-unfolding ROWS
-loop-low-smaller c = omega arith
