@@ -73,8 +73,8 @@ pub fn either(a: bool, b: bool) -> bool
     if a { true } else { b }
 }
 
-// The first code where the test holds, else the second.
-pub fn choose(test: bool, a: u16, b: u16) -> u16
+// The first value where the test holds, else the second.
+pub fn choose<T: Copy>(test: bool, a: T, b: T) -> T
     ensures { result ≡ (when test then a else b) }
 {
     if test { a } else { b }

@@ -7,7 +7,7 @@ use Prim.Native.Nat.{ℕ, ◌+◌, ◌<◌, ◌≤◌}
 use native.Mathlib.Omega.{arith}
 use native.Mathlib.Nat.{eq-or-lt_of_le}
 use borrow.Author.Tests.{lt-ltb, le-ltb}
-use Rattle.model.specs.Logic.{when◌then◌else◌, ◌and◌}
+use Rattle.model.specs.Logic.{when◌then◌else◌}
 use Rattle.model.specs.Table.{devices_in, links_in, device_good, link_fits, ascends, link_good, bad_device, bad_link, entries_answer}
 use Rattle.model.proofs.Basics.{first_at, first_none}
 

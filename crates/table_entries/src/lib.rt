@@ -4,47 +4,40 @@
 ghost use Rattle.std.specs.Prelude.{◌≡◌};
 ghost use Rattle.model.specs.Table.{byte_at, device_byte, link_byte, parent_good, ends_good};
 
-use basics::{wide, wide8};
 use model::NONE;
 
 // Byte k of a table, 0 past its end.
 pub fn byte_at(t: &[u8], k: usize) -> u8
     ensures { result ≡ byte_at t.now k }
 {
-    if k < t.len() { t[k] } else { 0 }
+    t.get(k).copied().unwrap_or(0)
 }
 
 // A byte of the entry of device p: field 0 the parent, 1 the flags.
 pub fn device_byte(t: &[u8], field: u8, p: u8) -> u8
     ensures { result ≡ device_byte t.now field p }
 {
-    byte_at(t, 7 + 2 * wide8(p) + wide8(field))
+    byte_at(t, 7 + 2 * usize::from(p) + usize::from(field))
 }
 
 // A byte of the entry of link i: field 0 the consumer, 1 the supplier, 2 the flags.
 pub fn link_byte(t: &[u8], field: u8, i: u16) -> u8
     ensures { result ≡ link_byte t.now field i }
 {
-    let n = wide8(byte_at(t, 5));
-    byte_at(t, 7 + 2 * n + 3 * wide(i) + wide8(field))
+    let n = usize::from(byte_at(t, 5));
+    byte_at(t, 7 + 2 * n + 3 * usize::from(i) + usize::from(field))
 }
 
 // A parent is none, or lower than the device's own number.
 pub fn parent_good(p: u8, parent: u8) -> bool
     ensures { result ≡ parent_good p parent }
 {
-    if parent == NONE {
-        return true;
-    }
-    parent < p
+    (parent == NONE) | (parent < p)
 }
 
 // The consumer is one of n devices, and the supplier lower than the consumer.
 pub fn ends_good(n: u8, consumer: u8, supplier: u8) -> bool
     ensures { result ≡ ends_good n consumer supplier }
 {
-    if n <= consumer {
-        return false;
-    }
-    supplier < consumer
+    (consumer < n) & (supplier < consumer)
 }

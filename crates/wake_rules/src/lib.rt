@@ -7,7 +7,6 @@ ghost use Rattle.model.specs.Requests.{barred};
 ghost use Rattle.memory.specs.Layout.{state_in};
 ghost use Rattle.wake_rules.specs.Rests.{sleeping_parent, sleeping_supplier};
 
-use basics::{both, either};
 use memory::{BYTES, WORDS};
 use memory_links::{flags, supplier};
 use memory_rows::{depth, error, ignore, parent, status};
@@ -20,8 +19,8 @@ pub fn on_parent<'a>(bytes: &'a [u8; BYTES], p: u8) -> bool
     ensures { (words : List ℕ) → result ≡ sleeping_parent (state_in bytes.now words) p }
 {
     let q = parent(bytes, p);
-    let counted = both(q < p, ignore(bytes, q) == 0);
-    both(counted, status(bytes, q) < ACTIVE)
+    let counted = (q < p) & (ignore(bytes, q) == 0);
+    counted & (status(bytes, q) < ACTIVE)
 }
 
 // Link i, of device p, is a runtime link, and its supplier sleeps. A supplier's number is lower.
@@ -29,8 +28,8 @@ pub fn on_supplier<'a>(bytes: &'a [u8; BYTES], p: u8, i: usize) -> bool
     ensures { (words : List ℕ) → result ≡ sleeping_supplier (state_in bytes.now words) p i }
 {
     let q = supplier(bytes, i);
-    let runtime = both(q < p, flags(bytes, i) % 2 == 1);
-    both(runtime, status(bytes, q) < ACTIVE)
+    let runtime = (q < p) & (flags(bytes, i) % 2 == 1);
+    runtime & (status(bytes, q) < ACTIVE)
 }
 
 // ---- what bars a device
@@ -39,5 +38,5 @@ pub fn on_supplier<'a>(bytes: &'a [u8; BYTES], p: u8, i: usize) -> bool
 pub fn bars<'a>(bytes: &'a [u8; BYTES], words: &'a [u32; WORDS], q: u8) -> bool
     ensures { result ≡ barred (state_in bytes.now words.now) q }
 {
-    either(0 < error(words, q), 0 < depth(bytes, q))
+    (0 < error(words, q)) | (0 < depth(bytes, q))
 }

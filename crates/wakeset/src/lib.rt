@@ -6,7 +6,6 @@ ghost use Rattle.model.specs.Limits.{ROWS};
 ghost use Rattle.wakeset.specs.Marks.{IsWakeSet, HeardFrom, IsLowest, Reaches};
 ghost use Rattle.wakeset.specs.Sweep.{Chosen, Adds, Passes, Steps, Sweeps};
 
-use basics::{both, either, row, wide};
 use links::FIRSTS;
 use memory::{BYTES, WORDS, devices};
 use memory_links::supplier;
@@ -27,10 +26,9 @@ pub struct Reach {
 fn mark(marks: &mut [bool; ROWS], low: u8, on: bool, q: u8) -> u8
     ensures { length marks.old ≡ ROWS → Adds (Chosen on q) marks.old low marks.new result }
 {
-    let at = row(q);
-    let had = marks[at];
-    marks[at] = either(on, had);
-    if both(on, q < low) { q } else { low }
+    let at = usize::from(q);
+    marks[at] = on | marks[at];
+    if on & (q < low) { q } else { low }
 }
 
 // Passes the marked device p: marks the sleeping devices that it rests on, its parent and the suppliers of its own links. Each of these
@@ -45,12 +43,11 @@ fn pass<'a>(
     ensures { Passes bytes.now first.now p marks.old low marks.new result }
 {
     let mut least = mark(marks, low, on_parent(bytes, p), parent(bytes, p));
-    let at = row(p);
-    let mut i = wide(first[at]);
-    let end = wide(first[at + 1]);
-    while i < end {
+    let at = usize::from(p);
+    let begin = usize::from(first[at]);
+    let end = usize::from(first[at + 1]);
+    for i in begin..end {
         least = mark(marks, least, on_supplier(bytes, p, i), supplier(bytes, i));
-        i += 1;
     }
     least
 }
@@ -65,14 +62,14 @@ fn step<'a>(
 ) -> u8
     ensures { Steps bytes.now first.now q marks.old end marks.new result }
 {
-    if !marks[row(q)] {
+    if !marks[usize::from(q)] {
         return end;
     }
     pass(bytes, first, q, marks, end)
 }
 
 // From no mark to those of the wake set of device t, which sleeps. After each step the marked devices among those passed, from q up, are
-// exactly the wake set's (`Each-step` in its proof): what a device rests on has a lower number, so all that lead to q are passed before it.
+// exactly the wake set's (`each_step` in its proof): what a device rests on has a lower number, so all that lead to q are passed before it.
 // Below the lowest mark there is none, so there the sweep ends. The answer is that mark.
 fn sweep<'a>(
     bytes: &'a [u8; BYTES],
@@ -82,11 +79,12 @@ fn sweep<'a>(
 ) -> u8
     ensures { Sweeps bytes.now first.now t marks.old marks.new result }
 {
-    marks[row(t)] = true;
+    marks[usize::from(t)] = true;
     let mut low = pass(bytes, first, t, marks, t);
-    let mut q = t;
-    while low < q {
-        q -= 1;
+    for q in (0..t).rev() {
+        if q < low {
+            break;
+        }
         low = step(bytes, first, q, marks, low);
     }
     low
@@ -117,10 +115,8 @@ fn any_barred<'a>(
     ensures { HeardFrom bytes.now words.now marks.now low t result }
 {
     let mut found = false;
-    let mut q = low;
-    while q < t {
-        found = either(both(marks[row(q)], bars(bytes, words, q)), found);
-        q += 1;
+    for q in low..t {
+        found = (marks[usize::from(q)] & bars(bytes, words, q)) | found;
     }
     found
 }

@@ -1,5 +1,4 @@
 -- Both exits by the definition. Assumes nothing.
-use Rattle.model.specs.Logic.{◌and◌}
 use Rattle.basics.proofs.both.Goals as goal
 
 -- the first holds

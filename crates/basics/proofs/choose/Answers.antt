@@ -5,9 +5,9 @@ use Rattle.basics.proofs.choose.Goals as goal
 -- the test holds
 pub returns-then-test : goal.returns-then-test
 unfolding when◌then◌else◌
-returns-then-test c = rw c.if-test.true
+returns-then-test g c = rw c.if-test.true
 
 -- it does not
 pub returns-else-test : goal.returns-else-test
 unfolding when◌then◌else◌
-returns-else-test c = rw c.if-test.false
+returns-else-test g c = rw c.if-test.false

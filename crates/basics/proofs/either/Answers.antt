@@ -1,5 +1,4 @@
 -- Both exits by the definition. Assumes nothing.
-use Rattle.model.specs.Logic.{◌or◌}
 use Rattle.basics.proofs.either.Goals as goal
 
 -- the first holds

@@ -1,17 +1,13 @@
--- `table::link_ascends` meets its contract: the four bytes read are those that `ascends` compares. Assumes nothing.
-use borrow.Author.Tests.{eq-eqb, ne_eqb}
-use Rattle.model.specs.Logic.{◌or◌}
-use Rattle.model.specs.Table.{ascends}
+-- `table::link_ascends` meets its contract. Assumes nothing.
+use native.Mathlib.Omega.{arith}
+use Rattle.std.proofs.lemmas.Grind.{common_steps}
+use Rattle.model.specs.Table.{ascends, before}
 use Rattle.table.proofs.link_ascends.Goals as goal
 
--- the first link
 pub returns-then-i-eq0 : goal.returns-then-i-eq0
-unfolding ascends
-returns-then-i-eq0 c = rw (eq-eqb _ _ c.if-i-eq0.true)
+unfolding ascends before
+returns-then-i-eq0 c = grind (arith, common_steps)
 
--- the link before it tells
 pub returns : goal.returns
-unfolding ascends
-returns c =
-    rw (ne_eqb _ _ c.if-i-eq0.false, ← c.link_byte-c.ensures, ← c.link_byte-s.ensures, ← c.link_byte.ensures, ← c.link_byte-2.ensures)
-    c.comes_before.ensures
+unfolding ascends before
+returns c = grind (arith, common_steps)

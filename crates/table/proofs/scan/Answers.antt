@@ -1,7 +1,6 @@
 -- `table::scan` meets its contract. The invariant: the entries passed are good. Assumes nothing.
 use mathlib.Core.Path.{◌≡◌, sym, ◌∙◌}
 use mathlib.Core.Bool.{true}
-use Prim.Native.Nat.{◌-◌}
 use native.Mathlib.Omega.{arith}
 use borrow.Author.Tests.{not-true, not-false}
 use Rattle.model.specs.Table.{link_fits}
@@ -17,30 +16,18 @@ pub entries-init : goal.entries-init
 entries-init c =
     record {
       devices_are = c.byte_at-devices.ensures;
-      links_are = c.byte_at-links.ensures;
+      links_are = c.from-links.ensures ∙ c.byte_at.ensures;
       few = omega arith;
       few_links = omega arith;
       devices = λ k l. absurd (omega arith);
       links = λ k l. absurd (omega arith);
     }
 
-pub overflow_add-p : goal.overflow_add-p
-overflow_add-p c = omega arith
-
-pub entries-smaller-then-p-devices : goal.entries-smaller-then-p-devices
-entries-smaller-then-p-devices c = omega arith
-
 -- a good device
 pub entries-preserved-then-p-devices : goal.entries-preserved-then-p-devices
 entries-preserved-then-p-devices c =
     let good = sym c.device_good.ensures ∙ not-false c.device_good.result c.if-not-device_good.false-raw in
     pass_device c.entries.invariant c.if-p-devices.true good
-
-pub overflow_add-i : goal.overflow_add-i
-overflow_add-i c = omega arith
-
-pub entries-smaller : goal.entries-smaller
-entries-smaller c = omega arith
 
 -- a good link
 pub entries-preserved : goal.entries-preserved

@@ -4,4 +4,4 @@ use Rattle.wake_rules.proofs.bars.Goals as goal
 
 pub returns : goal.returns
 unfolding barred
-returns c = rw (c.either.ensures, ← c.error.ensures, ← c.depth.ensures)
+returns c = rw (← c.error.ensures, ← c.depth.ensures)

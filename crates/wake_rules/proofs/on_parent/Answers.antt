@@ -11,4 +11,4 @@ returns c =
     λ words.
     let s = state_in c.args.bytes.now words in
     let asleep : c.status.result ≡ status_at s c.parent-q.result = c.status.ensures words in
-    rw (c.both.ensures, c.both-counted.ensures, ← c.parent-q.ensures words, ← c.ignore.ensures words, ← asleep)
+    rw (← c.parent-q.ensures words, ← c.ignore.ensures words, ← asleep)

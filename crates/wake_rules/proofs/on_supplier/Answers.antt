@@ -6,4 +6,4 @@ pub returns : goal.returns
 unfolding on_supplier sleeping_supplier
 returns c =
     λ words.
-    rw (c.both.ensures, c.both-runtime.ensures, ← c.supplier-q.ensures words, ← c.flags.ensures words, ← c.status.ensures words)
+    rw (← c.supplier-q.ensures words, ← c.flags.ensures words, ← c.status.ensures words)

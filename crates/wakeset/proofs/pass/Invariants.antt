@@ -11,7 +11,4 @@ use Rattle.wakeset.proofs.pass.Given as goal
 
 abbrev pub invariant-loop-i : goal.invariant-loop-i
 invariant-loop-i l =
-    (l.initial.i ≤ l.i) × ((l.i ≤ l.initial.i + (l.end - l.initial.i)) × ((words : List ℕ) → length l.initial.marks ≡ ROWS → Adds (AmongLinks (state_in l.bytes words) l.p l.initial.i l.i) l.initial.marks l.initial.least l.marks l.least))
-
-abbrev pub decreases-loop-i : goal.decreases-loop-i
-decreases-loop-i l = l.end - l.i
+    (l.i ≤ l.begin + (l.end - l.begin)) × ((words : List ℕ) → length l.initial.marks ≡ ROWS → Adds (AmongLinks (state_in l.bytes words) l.p l.begin l.i) l.initial.marks l.initial.least l.marks l.least)
