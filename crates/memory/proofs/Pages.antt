@@ -1,6 +1,7 @@
 -- A store into one cell: its page is set there, and every other page, area and number stays. Assumes nothing.
 use mathlib.Core.Path.{◌≡◌, refl, sym, ◌∙◌, ap}
 use mathlib.Core.List.{List, [], ◌∷◌}
+use mathlib.Core.Logic.{◌⊎◌, inl, inr}
 use Prim.Native.Nat.{ℕ, suc, ◌+◌, ◌*◌, ◌-◌, ◌<◌, ◌≤◌}
 use native.Mathlib.Omega.{arith}
 use native.Mathlib.Nat.{mul-suc, mul-le-mul_left}
@@ -148,6 +149,15 @@ module _ (cells : List ℕ) (p : ℕ) where
       let h = page_none LINKS k LINKPAGES (area LINKSAT (LINKS * LINKPAGES) cells) l (area_short LINKSAT (LINKS * LINKPAGES) cells) in
       omega arith
 
+  -- there is no such page, or no such row
+  pub device_out : (pages k : ℕ) → (pages ≤ k) ⊎ (ROWS ≤ p) → length (device_col pages k cells) ≤ p
+  device_out pages k (inl l) = device_page pages k l
+  device_out pages k (inr l) = device_row pages k l
+
+  pub link_out : (k : ℕ) → (LINKPAGES ≤ k) ⊎ (LINKS ≤ p) → length (link_col k cells) ≤ p
+  link_out k (inl l) = link_page k l
+  link_out k (inr l) = link_row k l
+
 -- ---- the numbers
 module _ (cells : List ℕ) (i v : ℕ) where
   pub tail_store : i < BYTENUMBERS → byte_tail (set cells (BYTETAIL + i) v) ≡ set (byte_tail cells) i v
@@ -204,6 +214,19 @@ link_read k cells i l few e =
     page_read LINKS k (area LINKSAT (LINKS * LINKPAGES) cells) i l
     ∙ area_read LINKSAT (LINKS * LINKPAGES) cells (LINKS * k + i) (inside LINKS k i LINKPAGES l few)
     ∙ ap (λ (n : ℕ). get_or cells n 0) e
+
+-- what a reader gives for row p of page k, of so many pages of so many rows: the cell there, or 0
+pub column_get : {k pages p rows r x : ℕ} (col : List ℕ)
+    → (k < pages → p < rows → r ≡ x) → ((pages ≤ k) ⊎ (rows ≤ p) → r ≡ 0)
+    → (k < pages → p < rows → get_or col p 0 ≡ x) → ((pages ≤ k) ⊎ (rows ≤ p) → length col ≤ p) → r ≡ get_or col p 0
+column_get {k} {pages} {p} {rows} col inside outside read none =
+    elim (dec_lt k pages) [
+      | yes few ↦ elim (dec_lt p rows) [
+        | yes l ↦ inside few l ∙ sym (read few l)
+        | no n ↦ let z : rows ≤ p = omega arith in outside (inr z) ∙ no_row col p (none (inr z))
+      ]
+      | no n ↦ let z : pages ≤ k = omega arith in outside (inl z) ∙ no_row col p (none (inl z))
+    ]
 
 pub tail_read : (cells : List ℕ) (i : ℕ) → i < BYTENUMBERS → get_or (byte_tail cells) i 0 ≡ get_or cells (BYTETAIL + i) 0
 unfolding byte_tail

@@ -1,8 +1,10 @@
 -- A store into memory as a change of the columns, and a change of a column or a number as a change of the state. Assumes nothing.
 use mathlib.Core.Path.{◌≡◌, refl, sym, ◌∙◌}
 use mathlib.Core.List.{List}
+use mathlib.Core.Logic.{◌⊎◌, inl, inr}
 use Prim.Native.Nat.{ℕ, ◌+◌, ◌*◌, ◌<◌, ◌≤◌}
 use native.Mathlib.Omega.{arith}
+use native.Mathlib.Decide.{dec_lt}
 use lib.ListN.{length, get_or, set, length-set}
 use lib.Seq.{set_out}
 use lib.Dec.{eqb}
@@ -51,6 +53,19 @@ module _ (page p v : ℕ) (cells : List ℕ) where
 
   pub word_same : length (word_col page cells) ≤ p → StoredWord page p v cells cells
   word_same out = record { columns = stays (λ k. word_col k cells) out; numbers = refl }
+
+-- what a setter leaves of the cells: row p of page k is set, of so many pages of so many rows, or all stays
+pub store_made : (Made : List ℕ → Type 0) {k pages p rows : ℕ} {cells after set_one : List ℕ}
+    → (k < pages → p < rows → after ≡ set_one) → ((pages ≤ k) ⊎ (rows ≤ p) → after ≡ cells)
+    → (k < pages → p < rows → Made set_one) → ((pages ≤ k) ⊎ (rows ≤ p) → Made cells) → Made after
+store_made Made {k} {pages} {p} {rows} inside outside set_there same =
+    elim (dec_lt k pages) [
+      | yes few ↦ elim (dec_lt p rows) [
+        | yes l ↦ rw (inside few l) (set_there few l)
+        | no n ↦ let z : rows ≤ p = omega arith in rw (outside (inr z)) (same (inr z))
+      ]
+      | no n ↦ let z : pages ≤ k = omega arith in rw (outside (inl z)) (same (inl z))
+    ]
 
 -- ---- a column changed is a state changed
 module _ {p v : ℕ} {bytes₀ bytes : List ℕ} where

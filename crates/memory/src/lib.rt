@@ -3,7 +3,7 @@
 // numbers of the pages. Outside the pages and the rows a reader answers 0 and a setter changes nothing.
 #![tactic(auto)]
 
-ghost use Rattle.std.specs.Prelude.{◌≡◌, List, ℕ, ◌≤◌, get_or, length};
+ghost use Rattle.std.specs.Prelude.{◌≡◌, ◌⊎◌, List, ℕ, ◌+◌, ◌*◌, ◌<◌, ◌≤◌, get_or, set, length, MatchOption};
 ghost use Rattle.model.specs.State.{with_callback, with_carry};
 ghost use Rattle.memory.specs.Layout.{BYTES, byte_col, link_col, word_col, state_in, WholeBytesBecome, WholeWordsBecome};
 ghost use Rattle.memory.specs.Cells.{with_count, with_links};
@@ -69,81 +69,105 @@ const LINKCOUNT: usize = ROWS * WORDPAGES;
 
 pub const WORDS: usize = LINKCOUNT + 1;
 
+// Pages that stand one after another: the cell where they begin, how many rows each has, and how many they are.
+#[derive(Clone, Copy)]
+struct Block {
+    at: usize,
+    rows: usize,
+    many: usize,
+}
+
+const DEVICE_BYTES: Block = Block {
+    at: 0,
+    rows: ROWS,
+    many: BYTEPAGES,
+};
+
+const LINK_BYTES: Block = Block {
+    at: LINKSAT,
+    rows: LINKS,
+    many: LINKPAGES,
+};
+
+const DEVICE_WORDS: Block = Block {
+    at: 0,
+    rows: ROWS,
+    many: WORDPAGES,
+};
+
 // ---- a row of a page
+
+// The cell of row p of a page; none where there is no such page or no such row.
+fn cell(of: Block, page: usize, p: usize) -> Option<usize>
+    requires { of.at + of.rows * of.many ≤ usize.MAX }
+    ensures { MatchOption result ((of.many ≤ page) ⊎ (of.rows ≤ p)) (λ c. (page < of.many) × (p < of.rows) × (c ≡ of.at + (of.rows * page + p))) }
+{
+    if of.many <= page {
+        return None;
+    }
+    if of.rows <= p {
+        return None;
+    }
+    Some(of.at + (of.rows * page + p))
+}
+
+// What row p of a page holds; `none` where there is no such page or no such row.
+fn get<C: Copy>(cells: &[C], of: Block, page: usize, p: usize, none: C) -> C
+    requires { of.at + of.rows * of.many ≤ length cells.now }
+    ensures inside { page < of.many → p < of.rows → result ≡ get_or cells.now (of.at + (of.rows * page + p)) none }
+    ensures outside { (of.many ≤ page) ⊎ (of.rows ≤ p) → result ≡ none }
+{
+    match cell(of, page, p) {
+        Some(at) => cells[at],
+        None => none,
+    }
+}
+
+// Row p of a page becomes v; nothing changes where there is no such page or no such row.
+fn put<C: Copy>(cells: &mut [C], of: Block, page: usize, p: usize, v: C)
+    requires { of.at + of.rows * of.many ≤ length cells.old }
+    ensures inside { page < of.many → p < of.rows → cells.new ≡ set cells.old (of.at + (of.rows * page + p)) v }
+    ensures outside { (of.many ≤ page) ⊎ (of.rows ≤ p) → cells.new ≡ cells.old }
+{
+    if let Some(at) = cell(of, page, p) {
+        cells[at] = v;
+    }
+}
 
 pub fn byte_at<'a>(bytes: &'a [u8; BYTES], page: usize, p: usize) -> u8
     ensures { result ≡ get_or (byte_col page bytes.now) p 0 }
 {
-    if BYTEPAGES <= page {
-        return 0;
-    }
-    if ROWS <= p {
-        return 0;
-    }
-    bytes[ROWS * page + p]
+    get(bytes, DEVICE_BYTES, page, p, 0)
 }
 
 pub fn link_at<'a>(bytes: &'a [u8; BYTES], page: usize, i: usize) -> u8
     ensures { result ≡ get_or (link_col page bytes.now) i 0 }
 {
-    if LINKPAGES <= page {
-        return 0;
-    }
-    if LINKS <= i {
-        return 0;
-    }
-    bytes[LINKSAT + (LINKS * page + i)]
+    get(bytes, LINK_BYTES, page, i, 0)
 }
 
 pub fn word_at<'a>(words: &'a [u32; WORDS], page: usize, p: usize) -> u32
     ensures { result ≡ get_or (word_col page words.now) p 0 }
 {
-    if WORDPAGES <= page {
-        return 0;
-    }
-    if ROWS <= p {
-        return 0;
-    }
-    words[ROWS * page + p]
+    get(words, DEVICE_WORDS, page, p, 0)
 }
 
 pub fn set_byte_at(bytes: &mut [u8; BYTES], page: usize, p: usize, v: u8)
     ensures { Stored page p v bytes.old bytes.new }
 {
-    if BYTEPAGES <= page {
-        return;
-    }
-    if ROWS <= p {
-        return;
-    }
-    let cell = ROWS * page + p;
-    bytes[cell] = v;
+    put(bytes, DEVICE_BYTES, page, p, v);
 }
 
 pub fn set_link_at(bytes: &mut [u8; BYTES], page: usize, i: usize, v: u8)
     ensures { StoredLink page i v bytes.old bytes.new }
 {
-    if LINKPAGES <= page {
-        return;
-    }
-    if LINKS <= i {
-        return;
-    }
-    let cell = LINKSAT + (LINKS * page + i);
-    bytes[cell] = v;
+    put(bytes, LINK_BYTES, page, i, v);
 }
 
 pub fn set_word_at(words: &mut [u32; WORDS], page: usize, p: usize, v: u32)
     ensures { StoredWord page p v words.old words.new }
 {
-    if WORDPAGES <= page {
-        return;
-    }
-    if ROWS <= p {
-        return;
-    }
-    let word = ROWS * page + p;
-    words[word] = v;
+    put(words, DEVICE_WORDS, page, p, v);
 }
 
 // ---- numbers

@@ -6,7 +6,7 @@ ghost use Rattle.program_end.specs.Ends.{status_of};
 
 // All is done, the table, the list or the saved state is refused, the arguments are wrong, a file cannot be opened, read or written, or the
 // keeper refuses a piece or to save.
-#[derive(Clone, Copy)]
+#[derive(Clone, Copy, Debug, PartialEq, Eq)]
 pub enum End {
     Done,
     Refused,
@@ -16,14 +16,16 @@ pub enum End {
 }
 
 // The exit status.
-pub fn status(end: End) -> u8
-    ensures { result ≡ status_of end }
-{
-    match end {
-        End::Done => 0,
-        End::Refused => 1,
-        End::Wrong => 2,
-        End::Failed => 3,
-        End::Stopped => 4,
+impl From<End> for u8 {
+    ghost from_gives = { λ end status. status ≡ status_of end };
+
+    fn from(end: End) -> u8 {
+        match end {
+            End::Done => 0,
+            End::Refused => 1,
+            End::Wrong => 2,
+            End::Failed => 3,
+            End::Stopped => 4,
+        }
     }
 }

@@ -1,18 +1,20 @@
 -- What becomes of a piece, in document 01's numbers. Assumes nothing.
-use Rattle.std.specs.Prelude.{ℕ}
-use Rattle.record_answer.specs.declared.Answer.{Answer}
-use Rattle.record_answer.specs.declared.Answer.TheVariants as answer
+use Rattle.std.specs.Prelude.{ℕ, Result, Ok, Err}
+use Rattle.record_answer.specs.declared.Refusal.{Refusal}
+use Rattle.record_answer.specs.declared.Refusal.TheVariants.{Unsound, Long, Room}
 
--- 21 to 23, or 0 where the piece is taken
-abbrev pub number_of : Answer → ℕ
-number_of answer.Unsound = 21
-number_of answer.Long = 22
-number_of answer.Room = 23
-number_of (answer.Taken k) = 0
+-- 21 to 23
+abbrev pub refusal_of : Refusal → ℕ
+refusal_of Unsound = 21
+refusal_of Long = 22
+refusal_of Room = 23
+
+-- the refusal's number, or 0 where the piece is taken
+abbrev pub number_of : Result ℕ Refusal → ℕ
+number_of (Ok k) = 0
+number_of (Err r) = refusal_of r
 
 -- how many replies; a refused piece gives none
-abbrev pub replies_of : Answer → ℕ
-replies_of answer.Unsound = 0
-replies_of answer.Long = 0
-replies_of answer.Room = 0
-replies_of (answer.Taken k) = k
+abbrev pub replies_of : Result ℕ Refusal → ℕ
+replies_of (Ok k) = k
+replies_of (Err r) = 0

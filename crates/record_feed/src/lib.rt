@@ -4,11 +4,10 @@
 ghost use Rattle.record_loop.specs.Runs.{Room};
 ghost use Rattle.record_feed.specs.Pieces.{Took, FedIn};
 
-use basics::wide8;
 use links::FIRSTS;
 use memory::{BYTES, WORDS};
 use model::PIECE;
-use record_answer::Answer;
+use record_answer::Refusal;
 use record_piece::Carried;
 
 // A piece that is not refused, after so many carried bytes: its records answered, the bytes left over carried.
@@ -41,22 +40,22 @@ pub fn feed<'a>(
     words: &mut [u32; WORDS],
     piece: &'a [u8],
     replies: &mut [u8],
-) -> Answer
+) -> Result<u16, Refusal>
     ensures { FedIn bytes.old words.old piece.now replies.old
         bytes.new words.new result replies.new }
 {
     let first = links::index(bytes, words);
     if !sound_callback::sound_by(bytes, words, &first) {
-        return Answer::Unsound;
+        return Err(Refusal::Unsound);
     }
     if PIECE < piece.len() {
-        return Answer::Long;
+        return Err(Refusal::Long);
     }
-    let used = wide8(memory::used(bytes));
+    let used = usize::from(memory::used(bytes));
     let count = (used + piece.len()) / 4;
     if replies.len() < 4 * count {
-        return Answer::Room;
+        return Err(Refusal::Room);
     }
     take_piece(bytes, words, &first, used, piece, replies);
-    Answer::Taken(count as u16)
+    Ok(count as u16)
 }

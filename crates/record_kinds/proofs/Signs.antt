@@ -1,15 +1,14 @@
 -- 16-bit numbers read as signed, and the constant tables. Assumes nothing.
 use Rattle.model.specs.Logic.{all, ◌and◌, when◌then◌else◌}
-use mathlib.Core.Path.{◌≡◌, refl, sym, ap, ◌∙◌}
-use mathlib.Core.Bool.{true, false, not}
+use mathlib.Core.Path.{◌≡◌, refl, sym, ◌∙◌}
+use mathlib.Core.Bool.{true, false}
 use Prim.Native.Nat.{ℕ, zero, suc, ◌+◌, ◌-◌, ◌<◌, ◌≤◌}
 use native.Mathlib.Omega.{arith}
 use native.Mathlib.Decide.{dec_lt}
 use mathlib.Core.List.{List, ◌∷◌, map, []}
 use lib.ListN.{get_or}
-use lib.Dec.{ltb, leb}
-use lib.IntN.{ℤ, pos, negsuc, ◌-ℤ◌}
-use lib.Signed.{lt_z, le_z}
+use lib.IntN.{ℤ, pos, negsuc}
+use lib.Signed.{le_z}
 use mir.Syntax.{w16}
 use mir.Val.{SFits, to_z, of_z}
 use mir.ValLaws.{to_z-of_z}
@@ -19,36 +18,30 @@ use Rattle.model.specs.Records.{LAST, Bounds, Kind, zero_only, plain, kinds, kin
 use Rattle.record_kinds.specs.declared.Bounds as declared
 use Rattle.record_kinds.specs.Kinds.{no_bounds, bounds_table, whole_table, always_table}
 
-pub low : (v : ℕ) → v < 32768 → to_z w16 v ≡ pos v
+low : (v : ℕ) → v < 32768 → to_z w16 v ≡ pos v
 low v l = rw (lt-ltb v 32768 l)
 
-pub signed_low : (v : ℕ) → v < 32768 → pos v ≡ signed v
+signed_low : (v : ℕ) → v < 32768 → pos v ≡ signed v
 unfolding when◌then◌else◌
 signed_low v l = rw (lt-leb 32768 v l)
 
-pub less : (k : ℕ) → negsuc 0 -ℤ pos k ≡ negsuc k
-less zero = refl
-less (suc k) = ap (λ n. negsuc (suc n)) (omega arith)
-
-pub signed_high : (v : ℕ) → 32768 ≤ v → v < 65536 → negsuc (65535 - v) ≡ signed v
+signed_high : (v : ℕ) → 32768 ≤ v → v < 65536 → negsuc (65535 - v) ≡ signed v
 unfolding when◌then◌else◌
 signed_high v l h = rw (le-leb 32768 v l, lt-ltb v 65536 h, e)
   where
     e : 65536 - v ≡ suc (65535 - v)
     e = omega arith
 
-pub fits : (k : ℕ) → k < 32768 → SFits w16 (negsuc k)
+-- the bits of a 16-bit number read as signed
+pub signed_is : (v : ℕ) → v < 65536 → to_z w16 v ≡ signed v
+signed_is v h =
+    elim (dec_lt v 32768) [
+      | yes l ↦ low v l ∙ signed_low v l
+      | no g ↦ let e : 65536 - suc v ≡ 65535 - v = omega arith in rw (le-ltb v 32768 (omega arith), e) (signed_high v (omega arith) h)
+    ]
+
+fits : (k : ℕ) → k < 32768 → SFits w16 (negsuc k)
 fits k l = record { sfits = l }
-
--- a test for at most, by the test for less
-flip : (a b : ℕ) → leb a b ≡ not (ltb b a)
-flip a b = elim (dec_lt b a) [ yes l ↦ rw (lt-leb a b l, lt-ltb b a l) | no g ↦ rw (le-leb a b (omega arith), le-ltb b a (omega arith)) ]
-
-pub flip_z : (a b : ℤ) → le_z a b ≡ not (lt_z b a)
-flip_z (pos a) (pos b) = flip a b
-flip_z (pos a) (negsuc b) = refl
-flip_z (negsuc a) (pos b) = refl
-flip_z (negsuc a) (negsuc b) = flip b a
 
 -- a number that went through its bits
 pub through : (v : ℤ) → SFits w16 v → to_z w16 (of_z w16 v) ≡ v
@@ -91,14 +84,6 @@ pub zero_allowed : (k v : ℕ) → k ≤ LAST → v ≡ 0 → true ≡ allowed k
 zero_allowed k v h e = rw e (sym ((all_iff _ (LAST + 1)).0 zero_fits k (omega arith)))
 
 -- the two tests of a value
-module _ (k v : ℕ) where
-  abbrev row : declared.Bounds
-  row = get_or bounds_table k no_bounds
-
-  pub allowed_no : lt_z (signed v) row.0 ≡ true → false ≡ allowed k v
-  unfolding allowed
-  allowed_no e = rw (bounds_at k, flip_z row.0 (signed v), e)
-
-  pub allowed_if : lt_z (signed v) row.0 ≡ false → le_z (signed v) row.1 ≡ allowed k v
-  unfolding allowed
-  allowed_if e = rw (bounds_at k, flip_z row.0 (signed v), e)
+pub allowed_is : (k v : ℕ) → (le_z (get_or bounds_table k no_bounds).0 (signed v) and le_z (signed v) (get_or bounds_table k no_bounds).1) ≡ allowed k v
+unfolding allowed
+allowed_is k v = rw (bounds_at k)

@@ -3,10 +3,10 @@
 
 ghost use Rattle.std.specs.Prelude.{◌≡◌, not, List, ℕ, ◌≤◌, eqb};
 ghost use Rattle.model.specs.Logic.{◌and◌};
-ghost use Rattle.model.specs.Records.{LAST, kind_of, signed, allowed, fault};
+ghost use Rattle.model.specs.Records.{LAST, kind_of, allowed, fault};
 ghost use Rattle.model.specs.Steps.{busy};
 ghost use Rattle.memory.specs.Layout.{state_in};
-ghost use Rattle.record_kinds.specs.Kinds.{rec_of};
+ghost use Rattle.record_kinds.specs.Kinds.{rec_of, refusal_of, fault_of};
 
 use memory::BYTES;
 
@@ -16,6 +16,27 @@ pub struct Record {
     pub kind: u8,
     pub device: u8,
     pub value: u16,
+}
+
+// Refusals 11 to 13: no such kind, no such device (or one other than 0 for a kind about the whole bench), a value beyond its kind's bounds.
+#[derive(Clone, Copy, Debug, PartialEq, Eq)]
+pub enum Refusal {
+    Kind,
+    Device,
+    Value,
+}
+
+impl Refusal {
+    // Document 01's number of a refusal.
+    pub fn number(self) -> u16
+        ensures { result ≡ refusal_of self }
+    {
+        match self {
+            Refusal::Kind => 11,
+            Refusal::Device => 12,
+            Refusal::Value => 13,
+        }
+    }
 }
 
 // ---- the table of kinds
@@ -60,17 +81,6 @@ const ALWAYS: [bool; KINDS] = [
     false, false, false, false, false, false, false, false, false, false, false, false, false, true,
 ];
 
-// A 16-bit number read as signed.
-fn signed(value: u16) -> i16
-    ensures { result ≡ signed value }
-{
-    if value < 32768 {
-        return value as i16;
-    }
-    let rest = (65535 - value) as i16;
-    -1 - rest
-}
-
 // The value lies in its kind's bounds.
 fn allowed(kind: u8, value: u16) -> bool
     requires { kind ≤ LAST }
@@ -80,14 +90,9 @@ fn allowed(kind: u8, value: u16) -> bool
     if value == 0 {
         return true;
     }
-    let bounds = BOUNDS[kind as usize];
-    let least = bounds.0;
-    let greatest = bounds.1;
-    let v = signed(value);
-    if v < least {
-        return false;
-    }
-    v <= greatest
+    let Bounds(least, greatest) = BOUNDS[usize::from(kind)];
+    let v = value.cast_signed();
+    (least <= v) & (v <= greatest)
 }
 
 // The kind is about the whole bench, and the device is not 0.
@@ -95,47 +100,28 @@ fn misplaced(kind: u8, device: u8) -> bool
     requires { kind ≤ LAST }
     ensures { result ≡ ((kind_of kind).whole and not (eqb device 0)) }
 {
-    if WHOLE[kind as usize] {
-        return device != 0;
-    }
-    false
+    WHOLE[usize::from(kind)] & (device != 0)
 }
 
-// Refusals 11 to 13 of a record, of n devices: the number, 0 where there is none of them.
-pub fn fault(n: u8, r: Record) -> u16
-    ensures { result ≡ fault n (rec_of r) }
+// Refusals 11 to 13 of a record, of n devices.
+pub fn fault(n: u8, r: Record) -> Result<(), Refusal>
+    ensures { fault_of result ≡ fault n (rec_of r) }
 {
-    let kind = r.kind;
-    let device = r.device;
-    let value = r.value;
-    if kind < 1 {
-        return 11;
+    if r.kind < 1 || LAST < r.kind {
+        return Err(Refusal::Kind);
     }
-    if LAST < kind {
-        return 11;
+    if n <= r.device || misplaced(r.kind, r.device) {
+        return Err(Refusal::Device);
     }
-    if n <= device {
-        return 12;
+    if !allowed(r.kind, r.value) {
+        return Err(Refusal::Value);
     }
-    if misplaced(kind, device) {
-        return 12;
-    }
-    if allowed(kind, value) {
-        return 0;
-    }
-    13
+    Ok(())
 }
 
-// A callback is open, and the kind is not answered meanwhile.
+// A callback is open, and the kind is not answered meanwhile; of no such kind, none is.
 pub fn busy<'a>(bytes: &'a [u8; BYTES], kind: u8) -> bool
     ensures { (words : List ℕ) → result ≡ busy (state_in bytes.now words) kind }
 {
-    if memory::callback(bytes) == 0 {
-        return false;
-    }
-    // no such kind: none is answered meanwhile
-    if KINDS <= kind as usize {
-        return true;
-    }
-    !ALWAYS[kind as usize]
+    memory::callback(bytes) != 0 && (KINDS <= usize::from(kind) || !ALWAYS[usize::from(kind)])
 }

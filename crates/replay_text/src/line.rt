@@ -6,7 +6,7 @@ ghost use Rattle.replay_text.specs.Line.{line_of, added};
 // The most bytes of a line.
 pub const ROOM: usize = 256;
 
-// A line: its bytes, zero after its text, and how many of them are text.
+// A line: its bytes, zero after its text, and how many of them are text. A rule of the project: fixed memory, no heap, so a line owns its bytes.
 #[derive(Clone, Copy)]
 pub struct Line {
     pub bytes: [u8; ROOM],
@@ -35,14 +35,11 @@ pub fn word(line: Line, text: &[u8]) -> Line
     if text.len() > ROOM - used {
         return line;
     }
-    let mut i: usize = 0;
-    while i < text.len() {
-        bytes[used + i] = text[i];
-        i += 1;
-    }
+    let end = used + text.len();
+    bytes[used..end].copy_from_slice(text);
     Line {
         bytes: bytes,
-        used: used + i,
+        used: end,
     }
 }
 

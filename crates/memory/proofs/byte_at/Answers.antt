@@ -1,22 +1,10 @@
 -- `memory::byte_at` meets its contract: a column has no row outside its page, and row p of a page is the cell read. Assumes nothing.
-use mathlib.Core.Path.{sym}
-use native.Mathlib.Omega.{arith}
+use native.Mathlib.Nat.{zero-add}
 use Rattle.model.specs.Limits.{ROWS}
-use Rattle.memory.specs.Layout.{BYTEPAGES, byte_col}
-use Rattle.memory.proofs.Pages.{no_row, device_page, device_row, device_read}
+use Rattle.memory.specs.Layout.{BYTEPAGES}
+use Rattle.memory.proofs.Pages.{column_get, device_out, device_read}
 use Rattle.memory.proofs.byte_at.Goals as goal
 
--- no such page
-pub returns-then-page-ge-BYTEPAGES : goal.returns-then-page-ge-BYTEPAGES
-unfolding ROWS
-returns-then-page-ge-BYTEPAGES c = no_row (byte_col _ _) _ (device_page _ _ BYTEPAGES _ (omega arith))
-
--- no such row
-pub returns-then-p-ge-ROWS : goal.returns-then-p-ge-ROWS
-unfolding ROWS
-returns-then-p-ge-ROWS c = no_row (byte_col _ _) _ (device_row _ _ BYTEPAGES _ (omega arith))
-
--- the cell
 pub returns : goal.returns
 unfolding ROWS
-returns c = sym (device_read BYTEPAGES _ _ _ (omega arith) (omega arith))
+returns c = column_get _ c.get.ensures.inside c.get.ensures.outside (λ few l. rw zero-add (device_read BYTEPAGES _ _ _ l few)) (device_out _ _ BYTEPAGES _)

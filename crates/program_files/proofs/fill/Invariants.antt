@@ -1,4 +1,4 @@
--- The invariant: the bytes read lie within the part to fill. The measure is what is left of it. Assumes nothing.
+-- `program_files::fill`: the bytes read lie within the part to fill. The measure is what is left of it. Assumes nothing.
 use mathlib.Core.Path.{◌≡◌}
 use Prim.Native.Nat.{◌≤◌, ◌-◌}
 use lib.ListN.{length}

@@ -1,11 +1,10 @@
--- `replay_text::line::word` meets its contract. The invariant: the bytes passed are copied. Assumes nothing.
-use mathlib.Core.Path.{◌≡◌}
-use Prim.Native.Nat.{◌+◌, ◌≤◌, ◌<◌}
-use native.Mathlib.Numerals.{add-one}
+-- `replay_text::line::word` meets its contract. Assumes nothing.
+use mathlib.Core.Path.{refl}
+use Prim.Native.Nat.{◌+◌, ◌-◌, ◌≤◌, ◌<◌}
 use native.Mathlib.Omega.{arith}
 use lib.ListN.{length}
-use lib.Seq.{paste-zero, paste-suc, take-length}
-use borrow.Author.Rules.{rules}
+use lib.Seq.{take-length}
+use Rattle.std.proofs.lemmas.Slice.{put_mid-paste}
 use borrow.Author.Tests.{le-leb, lt-leb}
 use Rattle.model.specs.Logic.{when◌then◌else◌}
 use Rattle.replay_text.specs.Line.{added}
@@ -27,27 +26,11 @@ returns-then-text-used c =
     let h : 256 < start.line.used + length start.text.now = omega arith in
     rw (lt-leb _ _ h)
 
-pub loop-i-init : goal.loop-i-init
-loop-i-init c =
-    let g = c.well_formed.0 in
-    (omega arith, omega arith, (search rules), paste-zero c.args.line.bytes c.args.line.used c.args.text.now)
-
-pub loop-i-preserved : goal.loop-i-preserved
-loop-i-preserved c =
-    let start = c.args in
-    let at = c.loop-i in
-    let l = at.invariant.2 in
-    let h : start.line.used + at.i < length start.line.bytes = omega arith in
-    let m : at.i < length start.text.now = omega arith in
-    let pasted = paste-suc start.line.bytes start.line.used start.text.now at.i 0 h m in
-    (omega arith, omega arith, at.invariant.2, rw (at.invariant.3, add-one at.i) pasted)
-
 -- the word is copied
 pub returns : goal.returns
 unfolding added when◌then◌else◌
 returns c =
     let start = c.args in
-    let at = c.loop-i in
-    let e : at.i ≡ length start.text.now = omega arith in
     let h : start.line.used + length start.text.now ≤ 256 = omega arith in
-    rw (le-leb _ _ h, at.invariant.3, e, take-length start.text.now)
+    let p = put_mid-paste start.line.used (start.line.used + length start.text.now - start.line.used) start.line.bytes c.copy_from_slice.new.self start.text.now (length start.text.now) c.copy_from_slice.ensures.after (omega arith) refl in
+    rw (le-leb _ _ h, p, take-length start.text.now)

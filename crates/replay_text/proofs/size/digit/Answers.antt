@@ -1,20 +1,19 @@
 -- `replay_text::size::digit` meets its contract: each exit is one branch of `digit_of`. Assumes nothing.
-use borrow.Author.Tests.{le-leb, lt-leb}
-use Rattle.model.specs.Logic.{when◌then◌else◌, ◌and◌}
-use Rattle.replay_text.specs.Sizes.{is_digit, digit_of}
+use Rattle.std.proofs.Common.{sym, ◌∙◌, arith}
+use Rattle.model.specs.Logic.{when◌then◌else◌}
+use Rattle.replay_text.specs.Sizes.{digit_of}
+use Rattle.replay_text.proofs.Reading.{digit_range}
 use Rattle.replay_text.proofs.size.digit.Goals as goal
 
--- before 0
-pub returns-then-b-lt48 : goal.returns-then-b-lt48
-unfolding digit_of is_digit when◌then◌else◌
-returns-then-b-lt48 c = rw (lt-leb 48 _ c.if-b-lt48.true)
-
--- after 9
-pub returns-then-b-gt57 : goal.returns-then-b-gt57
-unfolding digit_of is_digit when◌then◌else◌
-returns-then-b-gt57 c = rw (le-leb 48 _ c.if-b-lt48.false, lt-leb _ 57 c.if-b-gt57.true)
+-- no digit
+pub returns-then-not-is_digit : goal.returns-then-not-is_digit
+unfolding digit_of when◌then◌else◌
+returns-then-not-is_digit c = rw (sym c.is_digit.ensures ∙ c.if-not-is_digit.true)
 
 -- 0 to 9
+pub overflow_sub-b : goal.overflow_sub-b
+overflow_sub-b c = let r = digit_range c.args.b (sym c.is_digit.ensures ∙ c.if-not-is_digit.false) in omega arith
+
 pub returns : goal.returns
-unfolding digit_of is_digit when◌then◌else◌
-returns c = rw (le-leb 48 _ c.if-b-lt48.false, le-leb _ 57 c.if-b-gt57.false)
+unfolding digit_of when◌then◌else◌
+returns c = rw (sym c.is_digit.ensures ∙ c.if-not-is_digit.false, c.from.ensures)
