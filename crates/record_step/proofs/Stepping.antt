@@ -16,6 +16,7 @@ use Rattle.std.specs.Prelude.{Option, Some, None}
 use Rattle.record_kinds.specs.declared.Refusal.{Refusal}
 use Rattle.record_kinds.specs.declared.Refusal.TheVariants as refusal
 use Rattle.record_kinds.specs.Kinds.{refusal_of}
+use Rattle.request_answer.specs.Promises.{callback_number}
 use Rattle.request_answer.specs.declared.CallbackKind.{CallbackKind}
 use Rattle.request_answer.specs.declared.CallbackKind.TheVariants.{Suspend, Resume, Idle}
 use Rattle.record_step.specs.declared.Open.{Open}

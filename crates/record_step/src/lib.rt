@@ -28,7 +28,7 @@ fn refused(device: u8, number: u16) -> Reply
 // ---- kind 13
 
 // An open callback: its kind, the device asked, and the device that was requested ("target").
-#[derive(Clone, Copy, Debug, PartialEq, Eq)]
+#[derive(Clone, Copy)]
 struct Open {
     kind: CallbackKind,
     asked: u8,
