@@ -162,9 +162,9 @@ module _ (status : List ℕ) (p v : ℕ) (l : p < length status) (turned : power
       Turns (λ k. eqb (who k) p and t k) (powered v) (λ k. powered (get_or status (who k) 0) and t k) (λ k. powered (get_or (set status p v) (who k) 0) and t k)
   status_turns who t =
       record {
-        from = λ k h. let x = and_parts _ _ h in and_on _ _ x.1 ∙ rw (eqb-true (who k) p x.0) turned;
-        to = λ k h. let x = and_parts _ _ h in and_on _ _ x.1 ∙ rw (eqb-true (who k) p x.0) (ap powered (get_or-set_same status p v 0 l));
-        rest = λ k h. elim (ℕ_discrete (who k) p) [ yes e ↦ let x = (simp tests at h) e in and_off _ _ x ∙ sym (and_off _ _ x) | no ne ↦ rw (get_or-set_other status p (who k) v 0 ne) ];
+        from = λ k h. let x = and_parts _ _ h in and_on (powered (get_or status (who k) 0)) (t k) x.1 ∙ rw (eqb-true (who k) p x.0) turned;
+        to = λ k h. let x = and_parts _ _ h in and_on (powered (get_or (set status p v) (who k) 0)) (t k) x.1 ∙ rw (eqb-true (who k) p x.0) (ap powered (get_or-set_same status p v 0 l));
+        rest = λ k h. elim (ℕ_discrete (who k) p) [ yes e ↦ let x = (simp tests at h) e in and_off (powered (get_or status (who k) 0)) (t k) x ∙ sym (and_off (powered (get_or (set status p v) (who k) 0)) (t k) x) | no ne ↦ rw (get_or-set_other status p (who k) v 0 ne) ];
       }
 
   pub children_follow : (w : Wiring) (a b : List ℕ) → Follows (only p (has_parent w.parent)) (powered v) w.parent w.n a b →

@@ -9,7 +9,7 @@ use lib.Seq.{set-get_or}
 use lib.Dec.{eqb}
 use borrow.Author.Tests.{lt-ltb, le-ltb, lt-leb, eq-eqb}
 use Rattle.model.specs.Limits.{LINKS, ROWS, NONE}
-use Rattle.model.specs.Logic.{when◌then◌else◌, ◌and◌}
+use Rattle.model.specs.Logic.{when◌then◌else◌}
 use Rattle.model.specs.Sound.{Ordered}
 use Rattle.model.specs.Table.{Wiring}
 use Rattle.model.specs.State.{State, Devices, ACTIVE, powered, status_at, linked_at, with_status}

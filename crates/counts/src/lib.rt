@@ -2,12 +2,11 @@
 #![tactic(auto)]
 
 ghost use Rattle.std.specs.Prelude.{◌≡◌, List, ℕ};
-ghost use Rattle.model.specs.Logic.{when◌then◌else◌};
 ghost use Rattle.model.specs.State.{powered};
 ghost use Rattle.memory.specs.Layout.{Becomes};
 ghost use Rattle.counts.specs.Shifts.{next_up_to, shift_child, shift_link, shift_links_by, Turned};
 
-use basics::{row, wide};
+use basics::choose;
 use links::FIRSTS;
 use memory::{BYTES, WORDS};
 use memory_links::{flags, supplier};
@@ -27,31 +26,21 @@ fn next_children(children: u8, up: bool) -> u8
     ensures { result ≡ next_up_to 255 up children }
 {
     if up {
-        if 255 <= children {
-            return children;
-        }
-        return children + 1;
+        children.saturating_add(1)
+    } else {
+        children.saturating_sub(1)
     }
-    if children < 1 {
-        return 0;
-    }
-    children - 1
 }
 
-// A link count one more or one less; it stays where that would wrap.
+// A link count one more or one less; it stays where that would pass 65535, or wrap.
 fn next_links(links: u32, up: bool) -> u32
     ensures { result ≡ next_up_to 65535 up links }
 {
     if up {
-        if 65535 <= links {
-            return links;
-        }
-        return links + 1;
+        links + u32::from(links < 65535)
+    } else {
+        links.saturating_sub(1)
     }
-    if links < 1 {
-        return 0;
-    }
-    links - 1
 }
 
 // Device p's parent, if it has one, counts p or counts it no more.
@@ -66,20 +55,13 @@ fn shift_child(bytes: &mut [u8; BYTES], p: u8, up: bool)
     set_children(bytes, q, next_children(old, up));
 }
 
-// The next count of a runtime link's supplier; another link leaves the count as it was.
-fn if_runtime(runtime: bool, next: u32, old: u32) -> u32
-    ensures { result ≡ (when runtime then next else old) }
-{
-    if runtime { next } else { old }
-}
-
 // The supplier of link i counts it or counts it no more, where it is a runtime link.
 fn shift_link<'a>(bytes: &'a [u8; BYTES], words: &mut [u32; WORDS], up: bool, i: usize)
     ensures { Becomes (λ s. shift_link s up i) bytes.now words.old bytes.now words.new }
 {
     let q = supplier(bytes, i);
     let old = linked(words, q);
-    let next = if_runtime(flags(bytes, i) % 2 == 1, next_links(old, up), old);
+    let next = choose(flags(bytes, i) % 2 == 1, next_links(old, up), old);
     set_linked(words, q, next);
 }
 
@@ -94,15 +76,14 @@ fn shift_links<'a>(
     ensures { Becomes (λ s. shift_links_by first.now s p up) bytes.now words.old
         bytes.now words.new }
 {
-    let at = row(p);
-    let mut i = wide(first[at]);
-    let end = wide(first[at + 1]);
+    let at = usize::from(p);
+    let begin = usize::from(first[at]);
+    let end = usize::from(first[at + 1]);
     if LINKS < end {
         return;
     }
-    while i < end {
+    for i in begin..end {
         shift_link(bytes, words, up, i);
-        i += 1;
     }
 }
 

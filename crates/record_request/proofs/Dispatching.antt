@@ -7,7 +7,7 @@ use native.Mathlib.Omega.{arith}
 use native.Mathlib.Decide.{ℕ_discrete, dec_lt}
 use lib.Dec.{ltb}
 use borrow.Author.Tests.{ltb-true, lt-ltb}
-use Rattle.model.specs.Logic.{when◌then◌else◌, ◌and◌, ◌or◌}
+use Rattle.model.specs.Logic.{when◌then◌else◌, ◌and◌}
 use Rattle.model.specs.State.{State}
 use Rattle.model.specs.Records.{allowed}
 use Rattle.model.specs.Requests.{put_idle, idle, suspend, ignore_children}

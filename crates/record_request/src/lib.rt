@@ -3,7 +3,6 @@
 
 ghost use Rattle.record_request.specs.Dispatch.{RequestLeads};
 
-use basics::both;
 use links::FIRSTS;
 use memory::{BYTES, WORDS};
 use request_answer::{Reply, finished};
@@ -19,7 +18,7 @@ pub fn request<'a>(
 ) -> Reply
     ensures { RequestLeads kind v first.now bytes.old words.old p bytes.new words.new result }
 {
-    if both(5 < kind, kind < 9) {
+    if (5 < kind) & (kind < 9) {
         return request_suspend::let_sleep(bytes, words, first, kind, p);
     }
     match kind {

@@ -12,11 +12,20 @@ use Rattle.model.specs.Records.{Rec, RESULT, finished, refused, fault}
 use Rattle.model.specs.Steps.{result, suspend_result, resume_result, idle_result, result_step, request, busy, record_step}
 use Rattle.model.proofs.Steps.{Formed, formed}
 use Rattle.record_request.specs.Dispatch.{Requested}
+use Rattle.std.specs.Prelude.{Option, Some, None}
+use Rattle.record_kinds.specs.declared.Refusal.{Refusal}
+use Rattle.record_kinds.specs.declared.Refusal.TheVariants as refusal
+use Rattle.record_kinds.specs.Kinds.{refusal_of}
 use Rattle.record_step.specs.declared.CallbackKind.{CallbackKind}
 use Rattle.record_step.specs.declared.CallbackKind.TheVariants.{Suspend, Resume, Idle}
-use Rattle.record_step.specs.declared.Callback.{Callback}
-use Rattle.record_step.specs.declared.Callback.TheVariants.{None, Open}
+use Rattle.record_step.specs.declared.Open.{Open}
 use Rattle.record_step.specs.Records.{opened_as, open_in}
+
+-- a refusal has a number
+pub refusal_many : (r : Refusal) → 0 < refusal_of r
+refusal_many refusal.Kind = omega arith
+refusal_many refusal.Device = omega arith
+refusal_many refusal.Value = omega arith
 
 -- ---- a record by what the code learnt: how many devices there are, and the fault
 module _ (s : State) (r : Rec) {n f : ℕ} (many : n ≡ s.wiring.n) (told : f ≡ fault n r) where
@@ -48,21 +57,24 @@ module _ (s : State) (r : Rec) {n f : ℕ} (many : n ≡ s.wiring.n) (told : f �
       record_asks o = rw (fault_is, le-ltb 0 f fine, ne_eqb r.kind RESULT ne, o)
 
 -- ---- the open callback from its number
-abbrev number_of : Callback → ℕ
+abbrev kind_number : CallbackKind → ℕ
+kind_number Suspend = 1
+kind_number Resume = 2
+kind_number Idle = 3
+
+abbrev number_of : Option Open → ℕ
 number_of None = 0
-number_of (Open Suspend q t) = 1
-number_of (Open Resume q t) = 2
-number_of (Open Idle q t) = 3
+number_of (Some o) = kind_number o.kind
 
-abbrev asked_of : Callback → ℕ
+abbrev asked_of : Option Open → ℕ
 asked_of None = 0
-asked_of (Open k q t) = q
+asked_of (Some o) = o.asked
 
-abbrev target_of : Callback → ℕ
+abbrev target_of : Option Open → ℕ
 target_of None = 0
-target_of (Open k q t) = t
+target_of (Some o) = o.target
 
-record Reads (k a g : ℕ) (o : Callback) : Type 0 where
+record Reads (k a g : ℕ) (o : Option Open) : Type 0 where
   zero_test : eqb k 0 ≡ eqb (number_of o) 0
   one_test : eqb k 1 ≡ eqb (number_of o) 1
   two_test : eqb k 2 ≡ eqb (number_of o) 2
@@ -81,38 +93,38 @@ reads (suc (suc (suc k))) a g =
     record { zero_test = rw (x, y, z); one_test = rw (x, y, z); two_test = rw (x, y, z); asked = λ ne. rw (x, y, z); target = λ ne. rw (x, y, z) }
 
 module _ (s : State) (p v : ℕ) where
-  read : {o : Callback} → o ≡ open_in s → Reads s.callback.kind s.callback.asked s.callback.target o
+  read : {o : Option Open} → o ≡ open_in s → Reads s.callback.kind s.callback.asked s.callback.target o
   read e = rw e (reads s.callback.kind s.callback.asked s.callback.target)
 
   pub result_none : None ≡ open_in s → result_step s p v ≡ refused s p 14
   unfolding result_step when◌then◌else◌
   result_none e = rw (read e).zero_test
 
-  some : (k : CallbackKind) (q t : ℕ) → number_of (Open k q t) ≡ 0 → ⊥
-  some Suspend q t e = omega arith
-  some Resume q t e = omega arith
-  some Idle q t e = omega arith
+  some : (k : CallbackKind) → kind_number k ≡ 0 → ⊥
+  some Suspend e = omega arith
+  some Resume e = omega arith
+  some Idle e = omega arith
 
-  module _ (k : CallbackKind) (q t : ℕ) (e : Open k q t ≡ open_in s) where
+  module _ (k : CallbackKind) (q t : ℕ) (e : Some (record { kind = k; asked = q; target = t }) ≡ open_in s) where
     pub result_other : (p ≡ q → ⊥) → result_step s p v ≡ refused s p 15
     unfolding result_step when◌then◌else◌
     result_other ne =
-        rw ((read e).zero_test, ne_eqb (number_of (Open k q t)) 0 (some k q t), ne_eqb p s.callback.asked (λ z. ne (z ∙ sym ((read e).asked (some k q t)))))
+        rw ((read e).zero_test, ne_eqb (kind_number k) 0 (some k), ne_eqb p s.callback.asked (λ z. ne (z ∙ sym ((read e).asked (some k)))))
 
     pub target_is : t ≡ s.callback.target
-    target_is = (read e).target (some k q t)
+    target_is = (read e).target (some k)
 
     same : p ≡ q → eqb p s.callback.asked ≡ true
-    same z = eq-eqb p s.callback.asked (z ∙ (read e).asked (some k q t))
+    same z = eq-eqb p s.callback.asked (z ∙ (read e).asked (some k))
 
-  pub result_suspend : (q t : ℕ) → Open Suspend q t ≡ open_in s → p ≡ q → result_step s p v ≡ suspend_result s q v
+  pub result_suspend : (q t : ℕ) → Some (record { kind = Suspend; asked = q; target = t }) ≡ open_in s → p ≡ q → result_step s p v ≡ suspend_result s q v
   unfolding result_step result when◌then◌else◌
   result_suspend q t e z = rw (← z, (read e).zero_test, same Suspend q t e z, (read e).one_test)
 
-  pub result_resume : (q t : ℕ) → Open Resume q t ≡ open_in s → p ≡ q → result_step s p v ≡ resume_result s q t v
+  pub result_resume : (q t : ℕ) → Some (record { kind = Resume; asked = q; target = t }) ≡ open_in s → p ≡ q → result_step s p v ≡ resume_result s q t v
   unfolding result_step result when◌then◌else◌
   result_resume q t e z = rw (← z, target_is Resume q t e, (read e).zero_test, same Resume q t e z, (read e).one_test, (read e).two_test)
 
-  pub result_idle : (q t : ℕ) → Open Idle q t ≡ open_in s → p ≡ q → result_step s p v ≡ idle_result s q v
+  pub result_idle : (q t : ℕ) → Some (record { kind = Idle; asked = q; target = t }) ≡ open_in s → p ≡ q → result_step s p v ≡ idle_result s q v
   unfolding result_step result when◌then◌else◌
   result_idle q t e z = rw (← z, (read e).zero_test, same Idle q t e z, (read e).one_test, (read e).two_test)

@@ -1,5 +1,5 @@
 -- The open callback as the code has it, and what one record promises. Assumes nothing.
-use Rattle.std.specs.Prelude.{◌≡◌, List, ℕ, eqb}
+use Rattle.std.specs.Prelude.{◌≡◌, List, ℕ, eqb, Option, Some, None}
 use Rattle.model.specs.Logic.{when◌then◌else◌}
 use Rattle.model.specs.State.{State}
 use Rattle.model.specs.Records.{Rec}
@@ -10,19 +10,18 @@ use Rattle.links.specs.Firsts.{Indexed}
 use Rattle.request_answer.specs.declared.Reply.{Reply}
 use Rattle.request_answer.specs.Promises.{reply_of, Stays}
 use Rattle.record_step.specs.declared.CallbackKind.TheVariants.{Suspend, Resume, Idle}
-use Rattle.record_step.specs.declared.Callback.{Callback}
-use Rattle.record_step.specs.declared.Callback.TheVariants.{None, Open}
+use Rattle.record_step.specs.declared.Open.{Open}
 
 -- ---- the open callback by its kind's number: every number but 0 to 2 is read as idle, as the model does
-unfoldable pub opened_as : ℕ → ℕ → ℕ → Callback
+unfoldable pub opened_as : ℕ → ℕ → ℕ → Option Open
 opened_as kind asked target =
     when eqb kind 0 then None
-    else when eqb kind 1 then Open Suspend asked target
-    else when eqb kind 2 then Open Resume asked target
-    else Open Idle asked target
+    else when eqb kind 1 then Some (record { kind = Suspend; asked = asked; target = target })
+    else when eqb kind 2 then Some (record { kind = Resume; asked = asked; target = target })
+    else Some (record { kind = Idle; asked = asked; target = target })
 
 -- the open callback of a state
-abbrev pub open_in : State → Callback
+abbrev pub open_in : State → Option Open
 open_in s = opened_as s.callback.kind s.callback.asked s.callback.target
 
 -- ---- promises

@@ -28,33 +28,36 @@ fn refused(device: u8, number: u16) -> Reply
 // ---- kind 13
 
 // The callbacks that the host runs.
-#[derive(Clone, Copy)]
+#[derive(Clone, Copy, Debug, PartialEq, Eq)]
 enum CallbackKind {
     Suspend,
     Resume,
     Idle,
 }
 
-// The open callback: none; or its kind, the device asked, and the device that was requested ("target").
-#[derive(Clone, Copy)]
-enum Callback {
-    None,
-    Open(CallbackKind, u8, u8),
+// An open callback: its kind, the device asked, and the device that was requested ("target").
+#[derive(Clone, Copy, Debug, PartialEq, Eq)]
+struct Open {
+    kind: CallbackKind,
+    asked: u8,
+    target: u8,
 }
 
 // The open callback of the memory.
-fn open_callback<'a>(bytes: &'a [u8; BYTES]) -> Callback
+fn open_callback<'a>(bytes: &'a [u8; BYTES]) -> Option<Open>
     ensures { (words : List ℕ) → result ≡ open_in (state_in bytes.now words) }
 {
-    let kind = memory::callback(bytes);
-    let asked = memory::asked(bytes);
-    let target = memory::target(bytes);
-    match kind {
-        0 => Callback::None,
-        1 => Callback::Open(CallbackKind::Suspend, asked, target),
-        2 => Callback::Open(CallbackKind::Resume, asked, target),
-        _ => Callback::Open(CallbackKind::Idle, asked, target),
-    }
+    let kind = match memory::callback(bytes) {
+        0 => return None,
+        1 => CallbackKind::Suspend,
+        2 => CallbackKind::Resume,
+        _ => CallbackKind::Idle,
+    };
+    Some(Open {
+        kind: kind,
+        asked: memory::asked(bytes),
+        target: memory::target(bytes),
+    })
 }
 
 // A callback result counts only when a callback is open (else 14), and only for the device asked (else 15).
@@ -68,8 +71,14 @@ fn result<'a>(
     ensures { LeadsBy (λ s p. result_step s p v) first.now bytes.old words.old p
         bytes.new words.new result }
 {
-    let waiting = open_callback(bytes);
-    let Callback::Open(kind, asked, target) = waiting else {
+    let Some(
+        Open {
+            kind,
+            asked,
+            target,
+        },
+    ) = open_callback(bytes)
+    else {
         return refused(p, 14);
     };
     if p != asked {
@@ -98,9 +107,8 @@ pub fn step<'a>(
     let kind = r.kind;
     let p = r.device;
     let v = r.value;
-    let number = record_kinds::fault(memory::devices(bytes), r);
-    if 0 < number {
-        return refused(p, number);
+    if let Err(refusal) = record_kinds::fault(memory::devices(bytes), r) {
+        return refused(p, refusal.number());
     }
     if kind == RESULT {
         return result(bytes, words, first, p, v);

@@ -8,6 +8,14 @@ use Rattle.memory.specs.Layout.{state_in}
 use Rattle.memory.specs.Ready.{Full, fixed}
 use Rattle.links.specs.Firsts.{Indexed}
 use Rattle.request_answer.specs.declared.Reply as declared
+use Rattle.request_answer.specs.declared.CallbackKind.{CallbackKind}
+use Rattle.request_answer.specs.declared.CallbackKind.TheVariants.{Suspend, Resume, Idle}
+
+-- the number of a callback, in replies and in the memory of a bench
+abbrev pub callback_number : CallbackKind → ℕ
+callback_number Suspend = 1
+callback_number Resume = 2
+callback_number Idle = 3
 
 abbrev pub reply_of : declared.Reply → Reply
 reply_of r = record { kind = r.kind; device = r.device; code = r.code }

@@ -2,7 +2,28 @@
 #![tactic(auto)]
 
 ghost use Rattle.std.specs.Prelude.{◌≡◌};
-ghost use Rattle.request_answer.specs.Promises.{magnitude};
+ghost use Rattle.request_answer.specs.Promises.{callback_number, magnitude};
+
+// A callback, by its kind.
+#[derive(Clone, Copy, PartialEq, Eq)]
+pub enum CallbackKind {
+    Suspend,
+    Resume,
+    Idle,
+}
+
+impl CallbackKind {
+    // Its number, in replies and in the memory of a bench.
+    pub fn number(self) -> u8
+        ensures { result ≡ callback_number self }
+    {
+        match self {
+            CallbackKind::Suspend => 1,
+            CallbackKind::Resume => 2,
+            CallbackKind::Idle => 3,
+        }
+    }
+}
 
 // A reply: kind 0 finished with a code, 1 to 3 run a callback, 4 refused.
 #[derive(Clone, Copy)]
@@ -18,18 +39,18 @@ pub fn finished(device: u8, code: u16) -> Reply
 {
     Reply {
         kind: 0,
-        device: device,
-        code: code,
+        device,
+        code,
     }
 }
 
 // A callback of the device is asked for.
-pub fn ask(kind: u8, device: u8) -> Reply
-    ensures { result ≡ record { kind = kind; device = device; code = 0 } }
+pub fn ask(kind: CallbackKind, device: u8) -> Reply
+    ensures { result ≡ record { kind = callback_number kind; device = device; code = 0 } }
 {
     Reply {
-        kind: kind,
-        device: device,
+        kind: kind.number(),
+        device,
         code: 0,
     }
 }
@@ -38,8 +59,5 @@ pub fn ask(kind: u8, device: u8) -> Reply
 pub fn magnitude(v: u16) -> u32
     ensures { result ≡ magnitude v }
 {
-    if v == 0 {
-        return 0;
-    }
-    65536 - v as u32
+    u32::from(v.wrapping_neg())
 }

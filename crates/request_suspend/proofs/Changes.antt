@@ -137,10 +137,10 @@ unfolding idle_unused when◌then◌else◌
 unused_idles s p e = rw e
 
 -- the device is in use: the sum of the two counts that are read
-pub used_by : (kind p : ℕ) {held consumers uses : ℕ} {r : Bool} (s : State) → held ≡ holds_at s p → consumers ≡ linked_at s p → uses ≡ held + consumers
-    → r ≡ eqb kind 6 and ltb 0 uses → r ≡ still_used kind s p
+pub used_by : (kind p : ℕ) {held consumers uses : ℕ} (s : State) → held ≡ holds_at s p → consumers ≡ linked_at s p → uses ≡ held + consumers
+    → (eqb kind 6 and ltb 0 uses) ≡ still_used kind s p
 unfolding still_used
-used_by kind p s h c sum both = rw (both, sum, h, c)
+used_by kind p s h c sum = rw (sum, h, c)
 
 -- kind 6 goes no further: the put was -75, or the device is in use
 abbrev pub ends : ℕ → State → ℕ → ℕ → Bool
@@ -177,7 +177,7 @@ module _ {kind p code : ℕ} {first bytes₀ words₀ words₁ : List ℕ} (begu
       → Rests (ltb kind 8) first bytes₀ words₁ p bytes words r → LetsSleep kind first bytes₀ words₀ p bytes words r
   unfolding still_used
   slept_go {bytes} {words} {r} going on =
-      let free = or_none _ _ going in
+      let free = or_none (not (eqb code 0)) (still_used kind (state_in bytes₀ words₁) p) going in
       elim (ℕ_discrete kind 6) [
         | yes six ↦
             let unused = rw (eq-eqb kind 6 six) at free.1 in

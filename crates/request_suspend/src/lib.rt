@@ -1,8 +1,7 @@
 // Kinds 6, 7 and 8, and the results of the idle and suspend callbacks.
 #![tactic(auto)]
 
-ghost use Rattle.std.specs.Prelude.{◌≡◌, List, ℕ, ltb};
-ghost use Rattle.model.specs.Logic.{when◌then◌else◌};
+ghost use Rattle.std.specs.Prelude.{◌≡◌, List, ℕ};
 ghost use Rattle.model.specs.Requests.{ask_suspend};
 ghost use Rattle.model.specs.Steps.{idle_result, suspend_result};
 ghost use Rattle.memory.specs.Layout.{state_in};
@@ -10,21 +9,14 @@ ghost use Rattle.request_answer.specs.Promises.{LeadsBy};
 ghost use Rattle.request_suspend.specs.Parts.{passing, settled};
 ghost use Rattle.request_suspend.specs.Sleeps.{PutFirst, still_used, LetsSleep};
 
-use basics::{both, choose, either};
+use basics::choose;
 use links::FIRSTS;
 use memory::{BYTES, WORDS, set_callback};
 use memory_rows::{holds, linked, status};
 use memory_stores::set_error;
 use model::{ACTIVE, EAGAIN, EBUSY, SUSPENDED, SUSPENDING};
-use request_answer::{Reply, ask, finished, magnitude};
+use request_answer::{CallbackKind, Reply, ask, finished, magnitude};
 use suspend_test::{suspend_test, usage};
-
-// The first of two codes that is not 0; 0 where both are.
-fn first_code(a: u16, b: u16) -> u16
-    ensures { result ≡ (when ltb 0 a then a else b) }
-{
-    choose(0 < a, a, b)
-}
 
 // The device turns suspending, and its suspend callback is asked for.
 fn ask_suspend<'a>(
@@ -36,8 +28,8 @@ fn ask_suspend<'a>(
     ensures { LeadsBy ask_suspend first.now bytes.old words.old p bytes.new words.new result }
 {
     counts::set_status(bytes, words, first, p, SUSPENDING);
-    set_callback(bytes, 1, p, p);
-    ask(1, p)
+    set_callback(bytes, CallbackKind::Suspend.number(), p, p);
+    ask(CallbackKind::Suspend, p)
 }
 
 // The put that kind 6 begins with: its code; 0 for any other kind.
@@ -56,7 +48,7 @@ fn still_used<'a>(words: &'a [u32; WORDS], kind: u8, p: u8) -> bool
 {
     let held = holds(words, p);
     let consumers = linked(words, p);
-    both(kind == 6, 0 < usage(held, consumers))
+    (kind == 6) & (0 < usage(held, consumers))
 }
 
 // Kinds 6, 7 and 8. Kind 6 is a put, and kind 7 follows unless the put was -75 or the device is still in use: both are answered with the
@@ -72,19 +64,20 @@ pub fn let_sleep<'a>(
     ensures { LetsSleep kind first.now bytes.old words.old p bytes.new words.new result }
 {
     let put = put_first(words, kind, p);
-    if either(put != 0, still_used(words, kind, p)) {
+    if (put != 0) | still_used(words, kind, p) {
         return finished(p, put);
     }
     let awake = choose(status(bytes, p) == ACTIVE, 0, EAGAIN);
     let asleep = choose(status(bytes, p) == SUSPENDED, 1, 0);
     let own = choose(kind < 8, awake, asleep);
-    let code = first_code(suspend_test(bytes, words, p), own);
+    let test = suspend_test(bytes, words, p);
+    let code = choose(0 < test, test, own);
     if 0 < code {
         return finished(p, code);
     }
     if kind < 8 {
-        set_callback(bytes, 3, p, p);
-        return ask(3, p);
+        set_callback(bytes, CallbackKind::Idle.number(), p, p);
+        return ask(CallbackKind::Idle, p);
     }
     ask_suspend(bytes, words, first, p)
 }
@@ -111,20 +104,14 @@ pub fn idle_result<'a>(
 fn passing(v: u16) -> bool
     ensures { result ≡ passing v }
 {
-    if v == EAGAIN {
-        return true;
-    }
-    v == EBUSY
+    (v == EAGAIN) | (v == EBUSY)
 }
 
 // The status that a suspend callback's result leads to.
 fn settled(v: u16) -> u8
     ensures { result ≡ settled v }
 {
-    if v == 0 {
-        return SUSPENDED;
-    }
-    ACTIVE
+    choose(v == 0, SUSPENDED, ACTIVE)
 }
 
 // The result v of the suspend callback of device p.

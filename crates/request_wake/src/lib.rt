@@ -12,7 +12,7 @@ use memory::{BYTES, WORDS, devices, set_callback};
 use memory_rows::{depth, error, status};
 use memory_stores::{set_error, set_status_cell};
 use model::{ACTIVE, EACCES, EBUSY, EINVAL, RESUMING, SUSPENDED};
-use request_answer::{Reply, ask, finished, magnitude};
+use request_answer::{CallbackKind, Reply, ask, finished, magnitude};
 use wakeset::{lowest_member, reached};
 
 // Device q turns resuming for the wake of t, and its resume callback is asked for.
@@ -20,8 +20,8 @@ fn ask_resume(bytes: &mut [u8; BYTES], q: u8, t: u8) -> Reply
     ensures { Resumes bytes.old q t bytes.new result }
 {
     set_status_cell(bytes, q, RESUMING);
-    set_callback(bytes, 2, q, t);
-    ask(2, q)
+    set_callback(bytes, CallbackKind::Resume.number(), q, t);
+    ask(CallbackKind::Resume, q)
 }
 
 // Kind 9.
@@ -85,10 +85,7 @@ fn go_on<'a>(
 fn failed(p: u8, t: u8, v: u16) -> u16
     ensures { result ≡ failed p t v }
 {
-    if p == t {
-        return v;
-    }
-    EBUSY
+    if p == t { v } else { EBUSY }
 }
 
 // The result v of the resume callback of device p, which was asked for the wake of t.

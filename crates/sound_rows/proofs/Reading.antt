@@ -1,59 +1,30 @@
--- What the parts on stretches of a column tell of the model's test of it. Assumes nothing.
-use mathlib.Core.Path.{◌≡◌, refl, sym}
+-- What a test of one row tells of the model's test of a column, and a test as a number. Assumes nothing.
+use mathlib.Core.Path.{◌≡◌, refl, ◌∙◌}
 use mathlib.Core.Bool.{Bool, true, false}
 use mathlib.Core.List.{List}
-use Prim.Native.Nat.{ℕ, ◌+◌, ◌-◌, ◌≤◌}
+use Prim.Native.Nat.{ℕ}
 use native.Mathlib.Omega.{arith}
-use native.Mathlib.Decide.{dec_lt}
-use lib.ListN.{length, get_or, get_or-eq_default}
-use lib.Dec.{leb}
-use Rattle.model.specs.Logic.{◌and◌, all}
-use Rattle.model.specs.SoundTest.{column_test}
-use Rattle.model.proofs.Logic.{tests}
-use Rattle.model.proofs.Loops.{all_next}
-use Rattle.sound_rows.specs.Parts.{low_rows}
+use native.Mathlib.Decide.{ℕ_discrete}
+use mir.Val.{bool_byte}
+use lib.ListN.{get_or}
+use lib.Dec.{ltb, leb, eqb}
+use borrow.Author.Tests.{le-leb, lt-leb, eq-eqb, ne_eqb}
+use Rattle.model.specs.Logic.{when◌then◌else◌, bit}
 
--- two tests that pass together are one
-bool_eq : (x y : Bool) → (x ≡ true → y ≡ true) → (y ≡ true → x ≡ true) → x ≡ y
-bool_eq true y f g = sym (f refl)
-bool_eq false true f g = g refl
-bool_eq false false f g = refl
+-- at most 0 is 0
+leb_none : (v : ℕ) → leb v 0 ≡ eqb v 0
+leb_none v = elim (ℕ_discrete v 0) [ yes y ↦ rw (le-leb v 0 (omega arith), eq-eqb v 0 y) | no n ↦ rw (lt-leb v 0 (omega arith), ne_eqb v 0 n) ]
 
--- a loop over the rows from one on: none, one more, and the end
-pub low_none : (from most : ℕ) (col : List ℕ) → true ≡ low_rows from from most col
-unfolding low_rows all
-low_none from most col = let e : from - from ≡ 0 = omega arith in rw e
+-- row k is in range, if it is one of the n in use, and 0 if not
+pub row_low : (n most k : ℕ) (col : List ℕ) {r : Bool} → r ≡ leb (get_or col k 0) (when ltb k n then most else 0)
+    → r ≡ (when ltb k n then leb (get_or col k 0) most else eqb (get_or col k 0) 0)
+unfolding when◌then◌else◌
+row_low n most k col e = e ∙ cases (ltb k n)
+  where
+    cases : (b : Bool) → leb (get_or col k 0) (when b then most else 0) ≡ (when b then leb (get_or col k 0) most else eqb (get_or col k 0) 0)
+    cases true = refl
+    cases false = leb_none (get_or col k 0)
 
-pub low_next : (from p most : ℕ) (col : List ℕ) {v : ℕ} {g r : Bool}
-    → from ≤ p → v ≡ get_or col p 0 → g ≡ low_rows from p most col → r ≡ (leb v most and g) → r ≡ low_rows from (p + 1) most col
-unfolding low_rows
-low_next from p most col {v} {g} {r} l e h q =
-    let k = p - from in
-    let at : from + k ≡ p = omega arith in
-    let more : p + 1 - from ≡ k + 1 = omega arith in
-    rw more (all_next (λ j. leb (get_or col (from + j) 0) most) k (rw (at, e)) h q)
-
-pub low_done : (from to p most : ℕ) (col : List ℕ) {g : Bool}
-    → from ≤ p → p ≤ from + (to - from) → to ≤ p → g ≡ low_rows from p most col → g ≡ low_rows from to most col
-unfolding low_rows
-low_done from to p most col a b c h = let e : p - from ≡ to - from = omega arith in rw e at h
-
--- the rows in use and the others make a column
-pub column_cut : (rows n most : ℕ) (col : List ℕ) → length col ≤ rows → low_rows 0 n most col and low_rows n rows 0 col ≡ column_test rows n most col
-unfolding column_test low_rows
-column_cut rows n most col short =
-    bool_eq _ _
-    (λ e.
-    let (a, b) = simp tests at e in
-    simp tests (λ p l. (
-      λ k. let z : 0 + p ≡ p = omega arith in rw z at (a p (omega arith)),
-      λ k. let d = p - n in let q : p ≡ n + d = omega arith in let z = b d (omega arith) in rw q (omega arith),
-    )))
-    (λ e.
-    let f = simp tests at e in
-    simp tests (
-      λ p l.
-          let q : 0 + p ≡ p = omega arith in
-          rw q (elim (dec_lt p rows) [ yes y ↦ (f p y).0 (omega arith) | no g ↦ let z = get_or-eq_default col 0 {n = p} (omega arith) in omega arith ]),
-      λ p l. let z = (f (n + p) (omega arith)).1 (omega arith) in omega arith,
-    ))
+pub byte_bit : (b : Bool) → bool_byte b ≡ bit b
+byte_bit true = refl
+byte_bit false = refl

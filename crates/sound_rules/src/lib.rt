@@ -1,72 +1,38 @@
 // The rules of the soundness test for every device and every link, over a memory of any contents: a parent and a supplier have lower
-// numbers, and what a device rests on is powered. The loops go through all of them and join the tests, so that a compiler can take several
-// at once.
+// numbers, and what a device rests on is powered. `every` goes through all of them.
 #![tactic(auto)]
 
 ghost use Rattle.std.specs.Prelude.{◌≡◌};
 ghost use Rattle.model.specs.Logic.{all};
-ghost use Rattle.model.specs.Table.{parent_good, ends_good};
 ghost use Rattle.model.specs.SoundTest.{parent_supplies, link_supplies};
 ghost use Rattle.sound_rules.specs.Parts.{parent_fits, ends_fit, child_rests, link_rests};
 ghost use Rattle.sound_rules.specs.Sayings.{Says};
 
-use basics::both;
 use memory::BYTES;
 use model::{ACTIVE, NONE, SUSPENDED};
+use sound_rows::every;
+use table_entries::{ends_good, parent_good};
 
 // ---- lower numbers
-
-// The parent of device p is none or has a lower number.
-fn parent_good(p: u8, parent: u8) -> bool
-    ensures { result ≡ parent_good p parent }
-{
-    if parent == NONE {
-        return true;
-    }
-    parent < p
-}
-
-// A link goes from one of n devices to one with a lower number.
-fn ends_good(n: u8, consumer: u8, supplier: u8) -> bool
-    ensures { result ≡ ends_good n consumer supplier }
-{
-    if n <= consumer {
-        return false;
-    }
-    supplier < consumer
-}
 
 // Each of the n devices has no parent or one with a lower number.
 pub fn parents_good<'a>(bytes: &'a [u8; BYTES], n: u8) -> bool
     ensures { Says (λ s. all (parent_fits s) n) bytes.now result }
 {
-    let mut good = true;
-    let mut p: u8 = 0;
-    while p < n {
-        good = both(parent_good(p, memory_rows::parent(bytes, p)), good);
-        p += 1;
-    }
-    good
+    every(usize::from(n), |p| {
+        let p = p as u8;
+        parent_good(p, memory_rows::parent(bytes, p))
+    })
 }
 
 // Each of the m links goes from one of n devices to one with a lower number.
 pub fn links_fit<'a>(bytes: &'a [u8; BYTES], n: u8, m: usize) -> bool
     ensures { Says (λ s. all (ends_fit n s) m) bytes.now result }
 {
-    let mut good = true;
-    let mut i: usize = 0;
-    while i < m {
-        good = both(
-            ends_good(
-                n,
-                memory_links::consumer(bytes, i),
-                memory_links::supplier(bytes, i),
-            ),
-            good,
-        );
-        i += 1;
-    }
-    good
+    every(m, |i| {
+        let consumer = memory_links::consumer(bytes, i);
+        ends_good(n, consumer, memory_links::supplier(bytes, i))
+    })
 }
 
 // ---- supply
@@ -75,29 +41,14 @@ pub fn links_fit<'a>(bytes: &'a [u8; BYTES], n: u8, m: usize) -> bool
 fn child_rests(status: u8, parent: u8, ignore: u8, up: u8) -> bool
     ensures { result ≡ child_rests status parent ignore up }
 {
-    if status == SUSPENDED {
-        return true;
-    }
-    if parent == NONE {
-        return true;
-    }
-    if ignore != 0 {
-        return true;
-    }
-    ACTIVE <= up
+    (status == SUSPENDED) | (parent == NONE) | (ignore != 0) | (ACTIVE <= up)
 }
 
 // The consumer of a runtime link rests on the supplier, and that is powered: by the statuses of both.
 fn link_rests(consumer: u8, flags: u8, supplier: u8) -> bool
     ensures { result ≡ link_rests consumer flags supplier }
 {
-    if consumer == SUSPENDED {
-        return true;
-    }
-    if flags % 2 == 0 {
-        return true;
-    }
-    ACTIVE <= supplier
+    (consumer == SUSPENDED) | (flags % 2 != 1) | (ACTIVE <= supplier)
 }
 
 // What device p rests on above it is powered.
@@ -117,13 +68,7 @@ fn parent_supplies<'a>(bytes: &'a [u8; BYTES], p: u8) -> bool
 pub fn parents_supply<'a>(bytes: &'a [u8; BYTES], n: u8) -> bool
     ensures { Says (λ s. all (parent_supplies s.wiring s.devices.status) n) bytes.now result }
 {
-    let mut good = true;
-    let mut p: u8 = 0;
-    while p < n {
-        good = both(parent_supplies(bytes, p), good);
-        p += 1;
-    }
-    good
+    every(usize::from(n), |p| parent_supplies(bytes, p as u8))
 }
 
 // What link i rests on is powered.
@@ -143,11 +88,5 @@ fn link_supplies<'a>(bytes: &'a [u8; BYTES], i: usize) -> bool
 pub fn links_supply<'a>(bytes: &'a [u8; BYTES], m: usize) -> bool
     ensures { Says (λ s. all (link_supplies s.wiring s.devices.status) m) bytes.now result }
 {
-    let mut good = true;
-    let mut i: usize = 0;
-    while i < m {
-        good = both(link_supplies(bytes, i), good);
-        i += 1;
-    }
-    good
+    every(m, |i| link_supplies(bytes, i))
 }

@@ -6,7 +6,7 @@ ghost use Rattle.model.specs.Requests.{suspend_test};
 ghost use Rattle.memory.specs.Layout.{state_in};
 ghost use Rattle.suspend_test.specs.Parts.{has_children};
 
-use basics::{both, choose};
+use basics::choose;
 use memory::{BYTES, WORDS};
 use memory_rows::{children, depth, error, holds, ignore, linked};
 use model::{EACCES, EAGAIN, EBUSY, EINVAL};
@@ -15,14 +15,14 @@ use model::{EACCES, EAGAIN, EBUSY, EINVAL};
 pub fn usage(holds: u32, linked: u32) -> u64
     ensures { result ≡ holds + linked }
 {
-    holds as u64 + linked as u64
+    u64::from(holds) + u64::from(linked)
 }
 
 // Powered children that count keep device p awake.
 fn has_children<'a>(bytes: &'a [u8; BYTES], p: u8) -> bool
     ensures { (words : List ℕ) → result ≡ has_children (state_in bytes.now words) p }
 {
-    both(0 < children(bytes, p), ignore(bytes, p) == 0)
+    (0 < children(bytes, p)) & (ignore(bytes, p) == 0)
 }
 
 // The suspend test of device p: its code, 0 where it is passed. All that it reads is read first, and the code then chosen, the last test

@@ -69,7 +69,7 @@ fn step<'a>(
 }
 
 // From no mark to those of the wake set of device t, which sleeps. After each step the marked devices among those passed, from q up, are
-// exactly the wake set's (`Each-step` in its proof): what a device rests on has a lower number, so all that lead to q are passed before it.
+// exactly the wake set's (`each_step` in its proof): what a device rests on has a lower number, so all that lead to q are passed before it.
 // Below the lowest mark there is none, so there the sweep ends. The answer is that mark.
 fn sweep<'a>(
     bytes: &'a [u8; BYTES],
@@ -81,9 +81,10 @@ fn sweep<'a>(
 {
     marks[usize::from(t)] = true;
     let mut low = pass(bytes, first, t, marks, t);
-    let mut q = t;
-    while low < q {
-        q -= 1;
+    for q in (0..t).rev() {
+        if q < low {
+            break;
+        }
         low = step(bytes, first, q, marks, low);
     }
     low

@@ -13,7 +13,7 @@ use lib.Seq.{get_or-set_same, get_or-set_other}
 use Rattle.model.specs.Limits.{LINKS, ROWS, NONE}
 use Rattle.model.specs.Table.{Wiring}
 use Rattle.model.specs.State.{State, ACTIVE, status_at}
-use Rattle.model.specs.WakeSet.{Sleeping, Needs, link, Falls, here, down_to, On}
+use Rattle.model.specs.WakeSet.{Sleeping, Needs, Falls, here, down_to, On}
 use Rattle.model.proofs.Basics.{never, none_rows}
 use Rattle.model.proofs.WakeSet.{none_on}
 use Rattle.memory.specs.Layout.{state_in}

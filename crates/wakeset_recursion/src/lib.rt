@@ -8,7 +8,6 @@ ghost use Rattle.memory.specs.Layout.{state_in};
 ghost use Rattle.wakeset.specs.Marks.{IsWakeSet};
 ghost use Rattle.wakeset_recursion.specs.Recursion.{falls_from, links_from, Marks};
 
-use basics::{row, wide};
 use links::FIRSTS;
 use memory::BYTES;
 use memory_links::supplier;
@@ -23,14 +22,14 @@ fn mark<'a>(bytes: &'a [u8; BYTES], first: &'a [u16; FIRSTS], p: u8, marks: &mut
     requires { (words : List ℕ) → status_at (state_in bytes.now words) p < ACTIVE }
     ensures { Marks (falls_from p) bytes.now first.now p marks.old marks.new }
 {
-    let at = row(p);
+    let at = usize::from(p);
     if marks[at] {
         return;
     }
     if on_parent(bytes, p) {
         mark(bytes, first, parent(bytes, p), marks);
     }
-    mark_suppliers(bytes, first, p, wide(first[at]), marks);
+    mark_suppliers(bytes, first, p, usize::from(first[at]), marks);
     marks[at] = true;
 }
 
@@ -48,8 +47,8 @@ fn mark_suppliers<'a>(
     if LINKS <= k {
         return;
     }
-    let next = row(p) + 1;
-    if wide(first[next]) <= k {
+    let next = usize::from(p) + 1;
+    if usize::from(first[next]) <= k {
         return;
     }
     if on_supplier(bytes, p, k) {

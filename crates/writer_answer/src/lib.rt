@@ -1,41 +1,60 @@
-// What becomes of the lists that the writer of tables is given (request One of document 02), and the number and index of it.
+// Why the writer of tables refuses the lists that it is given (request One of document 02), and the number and index of its answer.
 #![tactic(auto)]
 
 ghost use Rattle.std.specs.Prelude.{◌≡◌};
-ghost use Rattle.writer_answer.specs.Outcomes.{outcome_of};
+ghost use Rattle.writer_answer.specs.Outcomes.{outcome_of, refusal_of};
 
-// The table is written, or a refusal, in the order of the tests. An entry's refusal has its index in the list given.
-#[derive(Clone, Copy)]
-pub enum Outcome {
-    Written,
+// Why no table is written, in the order of the tests. An entry's refusal has its index in the list given.
+#[derive(Clone, Copy, Debug, PartialEq, Eq)]
+pub enum Refusal {
     Limits,
     Device(u8),
     Link(u16),
     Room,
 }
 
+impl Refusal {
+    // The number of a refusal.
+    pub fn number(self) -> u8
+        ensures { result ≡ (refusal_of self).number }
+    {
+        match self {
+            Refusal::Limits => 4,
+            Refusal::Device(_) => 6,
+            Refusal::Link(_) => 7,
+            Refusal::Room => 8,
+        }
+    }
+
+    // The index of a faulty entry, 0 for any other refusal.
+    pub fn index(self) -> u16
+        ensures { result ≡ (refusal_of self).index }
+    {
+        match self {
+            Refusal::Limits => 0,
+            Refusal::Device(p) => u16::from(p),
+            Refusal::Link(i) => i,
+            Refusal::Room => 0,
+        }
+    }
+}
+
 // The number of an outcome, 0 where the table is written.
-pub fn number(outcome: Outcome) -> u8
+pub fn number(outcome: Result<(), Refusal>) -> u8
     ensures { result ≡ (outcome_of outcome).number }
 {
     match outcome {
-        Outcome::Written => 0,
-        Outcome::Limits => 4,
-        Outcome::Device(_) => 6,
-        Outcome::Link(_) => 7,
-        Outcome::Room => 8,
+        Ok(()) => 0,
+        Err(refusal) => refusal.number(),
     }
 }
 
 // The index of a faulty entry, 0 for any other outcome.
-pub fn index(outcome: Outcome) -> u16
+pub fn index(outcome: Result<(), Refusal>) -> u16
     ensures { result ≡ (outcome_of outcome).index }
 {
     match outcome {
-        Outcome::Written => 0,
-        Outcome::Limits => 0,
-        Outcome::Device(p) => p as u16,
-        Outcome::Link(i) => i,
-        Outcome::Room => 0,
+        Ok(()) => 0,
+        Err(refusal) => refusal.index(),
     }
 }

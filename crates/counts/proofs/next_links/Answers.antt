@@ -1,26 +1,21 @@
--- The four exits are the cases of the definition. Assumes nothing.
+-- The two exits are the cases of the definition. Assumes nothing.
 use native.Mathlib.Omega.{arith}
-use borrow.Author.Tests.{le-leb, lt-leb}
+use native.Mathlib.Decide.{dec_lt}
+use borrow.Author.Tests.{le-leb, lt-leb, le-ltb, lt-ltb}
 use Rattle.model.specs.Logic.{when◌then◌else◌}
 use Rattle.counts.specs.Shifts.{next_up_to}
 use Rattle.counts.proofs.next_links.Goals as goal
 
--- up, from the most
-pub returns-then-links-ge65535 : goal.returns-then-links-ge65535
-unfolding next_up_to when◌then◌else◌
-returns-then-links-ge65535 c = rw (c.if-up.true, le-leb 65535 _ c.if-links-ge65535.true)
-
--- up
+-- up, where it stays at the most
 pub returns-then-up : goal.returns-then-up
 unfolding next_up_to when◌then◌else◌
-returns-then-up c = rw (c.if-up.true, lt-leb 65535 _ c.if-links-ge65535.false)
-
--- down, from 0
-pub returns-then-links-lt1 : goal.returns-then-links-lt1
-unfolding next_up_to when◌then◌else◌
-returns-then-links-lt1 c = rw c.if-up.false (omega arith)
+returns-then-up c =
+    elim (dec_lt c.args.links 65535) [
+      | yes l ↦ rw (c.from.ensures, lt-ltb c.args.links 65535 l, c.if-up.true, lt-leb 65535 c.args.links l)
+      | no g ↦ rw (c.from.ensures, le-ltb c.args.links 65535 (omega arith), c.if-up.true, le-leb 65535 c.args.links (omega arith)) (omega arith)
+    ]
 
 -- down
-pub returns : goal.returns
+pub returns-else-up : goal.returns-else-up
 unfolding next_up_to when◌then◌else◌
-returns c = rw c.if-up.false
+returns-else-up c = rw c.if-up.false c.saturating_sub.ensures

@@ -6,5 +6,5 @@ pub returns : goal.returns
 returns c =
     let bytes = c.args.bytes.now in
     let words = c.args.words.now in
-    let value = rw (c.next_links.ensures, c.flags.ensures words) at c.if_runtime-next.ensures in
+    let value = rw (c.next_links.ensures, c.flags.ensures words) at c.choose-next.ensures in
     rw (c.set_linked.ensures bytes) (link_shifted _ _ _ (c.supplier-q.ensures words) (c.linked-old.ensures bytes) value)

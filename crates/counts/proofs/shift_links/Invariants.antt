@@ -8,7 +8,4 @@ use Rattle.counts.proofs.shift_links.Given as goal
 
 abbrev pub invariant-loop-i : goal.invariant-loop-i
 invariant-loop-i l =
-    (l.initial.i ≤ l.i) × ((l.i ≤ l.initial.i + (l.end - l.initial.i)) × (state_in l.bytes l.words ≡ shift_links (state_in l.bytes l.initial.words) l.up l.initial.i (l.i - l.initial.i)))
-
-abbrev pub decreases-loop-i : goal.decreases-loop-i
-decreases-loop-i l = l.end - l.i
+    (l.i ≤ l.begin + (l.end - l.begin)) × (state_in l.bytes l.words ≡ shift_links (state_in l.bytes l.initial.words) l.up l.begin (l.i - l.begin))

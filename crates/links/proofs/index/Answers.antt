@@ -1,6 +1,5 @@
 -- `links::index` meets its contract. The invariant: the rows up to p are counted up. Assumes nothing.
 use mathlib.Core.Path.{refl}
-use Prim.Native.Nat.{◌-◌}
 use native.Mathlib.Omega.{arith}
 use Rattle.model.specs.Limits.{LINKS, ROWS}
 use Rattle.links.proofs.Summing.{summed_none, sum_fits, summed_more, summed_all}
@@ -20,9 +19,9 @@ tallies-first-requires c = let z = c.if-many-gt-LINKS.false in omega arith
 pub loop-p-init : goal.loop-p-init
 loop-p-init c = summed_none _ _ _ (c.tallies-first.ensures _)
 
-pub overflow_add-next-in-loop-p : goal.overflow_add-next-in-loop-p
+pub overflow_add-first-in-loop-p : goal.overflow_add-first-in-loop-p
 unfolding LINKS
-overflow_add-next-in-loop-p c =
+overflow_add-first-in-loop-p c =
     let z = sum_fits _ _ c.loop-p.p c.loop-p.first c.loop-p.invariant c.loop-p-test.true in
     let l = c.if-many-gt-LINKS.false in
     omega arith

@@ -1,5 +1,5 @@
 -- One exit for the path of kinds 6, 7 and 8 and one for each other kind: its promise is the model's line of the kind. Assumes nothing.
-use mathlib.Core.Path.{sym, ◌∙◌}
+use mathlib.Core.Path.{◌∙◌}
 use Rattle.model.specs.Logic.{when◌then◌else◌}
 use Rattle.model.specs.Steps.{request}
 use Rattle.memory.specs.Layout.{state_in}
@@ -10,9 +10,9 @@ use Rattle.std.proofs.Common.{◌≢◌}
 use Rattle.record_request.proofs.request.Goals as goal
 
 -- kinds 6, 7 and 8
-pub returns-then-both : goal.returns-then-both
-returns-then-both c =
-    sleeping (sym c.both.ensures ∙ c.if-both.true) c.let_sleep.ensures
+pub returns-then-kind : goal.returns-then-kind
+returns-then-kind c =
+    sleeping c.if-kind.true c.let_sleep.ensures
 
 -- enable
 pub returns-in-1 : goal.returns-in-1
@@ -77,7 +77,7 @@ returns-in_default c =
       is =
           λ g h l.
           let six = past (past (past (past (past g.low n1) n2) n3) n4) n5 in
-          let nine = past_sleeping _ (sym c.both.ensures ∙ c.if-both.false) six in
+          let nine = past_sleeping _ c.if-kind.false six in
           let twelve = is_last _ _ g (past (past (past nine n9) n10) n11) in
           line_12 _ _ _ twelve ∙ (c.ignore_children.ensures.is (last_allowed _ _ g twelve) _).is h.ready.carried;
       stays = λ f. c.ignore_children.ensures.stays _;

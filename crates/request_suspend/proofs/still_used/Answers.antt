@@ -5,4 +5,4 @@ use Rattle.request_suspend.proofs.still_used.Goals as goal
 pub returns : goal.returns
 returns c =
     λ bytes.
-    used_by _ _ _ (c.holds-held.ensures bytes) (c.linked-consumers.ensures bytes) c.usage.ensures c.both.ensures
+    used_by c.args.kind _ _ (c.holds-held.ensures bytes) (c.linked-consumers.ensures bytes) c.usage.ensures

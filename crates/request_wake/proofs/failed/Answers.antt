@@ -8,6 +8,6 @@ pub returns-then-p-t : goal.returns-then-p-t
 unfolding failed when◌then◌else◌
 returns-then-p-t c = rw (eq-eqb _ _ c.if-p-t.true)
 
-pub returns : goal.returns
+pub returns-else-p-t : goal.returns-else-p-t
 unfolding failed when◌then◌else◌
-returns c = rw (ne_eqb _ _ c.if-p-t.false)
+returns-else-p-t c = rw (ne_eqb _ _ c.if-p-t.false)

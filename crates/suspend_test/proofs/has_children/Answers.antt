@@ -4,4 +4,4 @@ use Rattle.suspend_test.proofs.has_children.Goals as goal
 
 pub returns : goal.returns
 unfolding has_children
-returns c = λ words. rw (c.both.ensures, c.ignore.ensures words, c.children.ensures words)
+returns c = λ words. rw (c.ignore.ensures words, c.children.ensures words)

@@ -19,7 +19,7 @@ use Rattle.wakeset_recursion.proofs.+mark_mark_suppliers.Goals.{mark-then-on_par
 -- ---- mark
 -- it is marked
 pub mark-returns-then-marks-at : goal.mark-returns-then-marks-at
-mark-returns-then-marks-at t c = marks_same (λ words r q f. closed_has r (rw c.row-at.ensures.0 at c.if-marks-at.true) f)
+mark-returns-then-marks-at t c = marks_same (λ words r q f. closed_has r (rw c.from-at.ensures at c.if-marks-at.true) f)
 
 -- its parent's number is lower, and the parent sleeps
 pub mark-mark-requires : goal.mark-mark-requires
@@ -43,8 +43,8 @@ mark-returns t c =
       | mark-then-on_parent w ↦ rw w.marks-is (parent_taken w.parent.ensures (λ words. sym (told words) ∙ w.if-on_parent.true) w.mark.ensures)
       | mark-else-on_parent w ↦ rw w.marks-is (parent_left (λ words. sym (told words) ∙ w.if-on_parent.false))
     ] in
-    let row = c.row-at.ensures.0 in
-    let links = rw (c.wide.ensures, row) at c.mark_suppliers.ensures in
+    let row = c.from-at.ensures in
+    let links = rw (c.from.ensures, row) at c.mark_suppliers.ensures in
     rw row (marks_whole (omega arith) c.requires met links)
 
 -- ---- mark_suppliers
@@ -54,8 +54,8 @@ unfolding LINKS
 mark_suppliers-returns-then-k-ge-LINKS t c = links_past (omega arith) c.if-k-ge-LINKS.true
 
 -- no link of p is left
-pub mark_suppliers-returns-then-wide-k : goal.mark_suppliers-returns-then-wide-k
-mark_suppliers-returns-then-wide-k t c = links_none (rw (c.wide.ensures, c.row-next.ensures.0) at c.if-wide-k.true)
+pub mark_suppliers-returns-then-from-k : goal.mark_suppliers-returns-then-from-k
+mark_suppliers-returns-then-from-k t c = links_none (rw (c.from.ensures, c.from-next.ensures) at c.if-from-k.true)
 
 -- the supplier's number is lower, and the supplier sleeps
 pub mark_suppliers-mark-requires : goal.mark_suppliers-mark-requires
@@ -88,5 +88,5 @@ mark_suppliers-returns t c =
       | mark_suppliers-then-on_supplier w ↦ rw w.marks-is (link_taken_lem _ w.supplier.ensures (λ words. sym (told words) ∙ w.if-on_supplier.true) w.mark.ensures)
       | mark_suppliers-else-on_supplier w ↦ rw w.marks-is (link_left (λ words. sym (told words) ∙ w.if-on_supplier.false))
     ] in
-    let left = rw (c.wide.ensures, c.row-next.ensures.0) at c.if-wide-k.false in
+    let left = rw (c.from.ensures, c.from-next.ensures) at c.if-from-k.false in
     marks_links a.k left met c.mark_suppliers.ensures

@@ -1,9 +1,9 @@
--- `keeper_answers::status_from` meets its contract. Assumes nothing.
+-- `keeper_answers::Status::from_number` meets its contract. Assumes nothing.
 use Rattle.std.proofs.Common.{◌≢◌}
 use native.Mathlib.Omega.{arith}
 use borrow.Author.Tests.{ne_eqb}
 use Rattle.model.specs.Logic.{when◌then◌else◌}
-use Rattle.keeper_answers.proofs.status_from.Goals as goal
+use Rattle.keeper_answers.proofs.Status.from_number.Goals as goal
 
 -- 0, 1 and 2
 pub returns-in-0 : goal.returns-in-0
