@@ -1,17 +1,14 @@
 -- What is printed of a part or a link, without its end of line, is read as that part or link. Assumes nothing.
-use mathlib.Core.Path.{◌≡◌, refl, sym}
-use mathlib.Core.Bool.{Bool, true, false}
+use mathlib.Core.Path.{◌≡◌, refl}
+use mathlib.Core.Bool.{true}
 use mathlib.Core.List.{List, [], ◌∷◌, ◌++◌, append-nil, append_assoc}
 use Rattle.std.specs.Prelude.{Ok}
 use Prim.Native.Nat.{ℕ, ◌<◌}
-use native.Mathlib.Omega.{arith}
-use lib.Dec.{leb}
 use lib.ListN.{get_or}
-use Rattle.model.specs.Logic.{when◌then◌else◌, ◌and◌, ◌or◌}
+use Rattle.model.specs.Logic.{when◌then◌else◌}
 use Rattle.replay_text.specs.Text.{ascii, decimal}
 use Rattle.list_words.specs.Words.{is_blank, word_in}
 use Rattle.list_lines.specs.Lines.{part_in, link_in, entry_in}
-use Rattle.list_lines.specs.declared.entries.Entry.{Entry}
 use Rattle.list_lines.specs.declared.entries.Entry.TheVariants.{Part, Link}
 use Rattle.list_print.specs.Lines.{parent_text, part_words, link_words}
 use Rattle.list_print.proofs.Spaced.{uncut, solid, all_solid, spaced, words_back}

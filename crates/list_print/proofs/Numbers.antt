@@ -7,7 +7,7 @@ use mathlib.Core.List.{List}
 use Prim.Native.Nat.{ℕ, ◌<◌}
 use lib.Dec.{eqb}
 use borrow.Author.Tests.{eqb-true}
-use Rattle.model.specs.Logic.{when◌then◌else◌, ◌and◌, ◌or◌, all}
+use Rattle.model.specs.Logic.{when◌then◌else◌, ◌and◌, all}
 use Rattle.model.proofs.Logic.{and_iff, all_iff}
 use Rattle.replay_text.specs.Text.{ascii, digits_up_to, decimal}
 use Rattle.replay_text.specs.Sizes.{is_digit, all_digits, value_after}

@@ -1,13 +1,13 @@
 -- Words with a space before each are the words of that text. Assumes nothing.
 use mathlib.Core.Path.{◌≡◌, refl, sym, ap, ◌∙◌}
-use mathlib.Core.Bool.{Bool, true, false, not}
+use mathlib.Core.Bool.{Bool, true}
 use mathlib.Core.List.{List, [], ◌∷◌, ◌++◌, append-nil}
 use Prim.Native.Nat.{ℕ, zero, suc, ◌<◌}
 use native.Mathlib.Omega.{arith}
 use lib.Dec.{ltb}
 use lib.ListN.{length, get_or}
 use borrow.Author.Tests.{ltb-true, not-true}
-use Rattle.model.specs.Logic.{◌and◌, ◌or◌}
+use Rattle.model.specs.Logic.{◌and◌}
 use Rattle.model.proofs.Logic.{and_iff}
 use Rattle.std.specs.List.{prefix_len}
 use Rattle.std.proofs.Common.{one-add}
@@ -78,8 +78,8 @@ module _ (w : List ℕ) (ws : List (List ℕ)) (e : all_solid (w ∷ ws) ≡ tru
 -- a space is passed over
 pub space_first : (t : List ℕ) (k : ℕ) → word_at (32 ∷ t) k ≡ word_at t k
 unfolding word_at is_blank
-space_first t zero = refl
-space_first t (suc k) = refl
+space_first t zero = rw (front_cons is_blank 32 t refl).1
+space_first t (suc k) = rw (front_cons is_blank 32 t refl).1
 
 ends : (ws : List (List ℕ)) → before is_letter (spaced ws) ≡ []
 unfolding spaced is_blank
@@ -112,7 +112,8 @@ no_comment : (ws : List (List ℕ)) → all_solid ws ≡ true → before is_code
 unfolding spaced
 no_comment [] e = refl
 no_comment (w ∷ ws) e =
-    ap (λ (l : List ℕ). 32 ∷ l) (before_uncut is_code w (spaced ws) (front w ws e).code ∙ ap (λ (l : List ℕ). w ++ l) (no_comment ws (others w ws e)))
+    (front_cons is_code 32 (w ++ spaced ws) refl).0
+    ∙ ap (λ (l : List ℕ). 32 ∷ l) (before_uncut is_code w (spaced ws) (front w ws e).code ∙ ap (λ (l : List ℕ). w ++ l) (no_comment ws (others w ws e)))
 
 -- word k of a line that starts with a word
 pub words_back : (w : List ℕ) (ws : List (List ℕ)) (k : ℕ) → all_solid (w ∷ ws) ≡ true → word_in (w ++ spaced ws) k ≡ get_or (w ∷ ws) k []
