@@ -123,7 +123,3 @@ carried_same bytes words i v l = rw (set_out (area CARRIED 3 (byte_tail bytes)) 
 pub carried_set : (i v : ℕ) (s : State) → 6 ≤ i → with_carry s (set s.carry.bytes (i - 6) (v % 256)) s.carry.used ≡ with_number i v s
 unfolding with_number numbers_set
 carried_set i v s l = sym (get_or-eq_default (numbers_set v s) _ l)
-
--- the last of six numbers
-pub last_number : {T : Type 0} {i : ℕ} → i < 6 → ((((T × (i ≡ 0 → ⊥)) × (i ≡ 1 → ⊥)) × (i ≡ 2 → ⊥)) × (i ≡ 3 → ⊥)) × (i ≡ 4 → ⊥) → i ≡ 5
-last_number l r = omega arith

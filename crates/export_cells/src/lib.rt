@@ -8,7 +8,6 @@ ghost use Rattle.model.specs.State.{with_carry};
 ghost use Rattle.memory.specs.Layout.{state_in, WholeBytesBecome};
 ghost use Rattle.export_cells.specs.Cells.{numbers_of, cell_of, CellSet, NumberSet};
 
-use basics::{wide, word8};
 use memory::{BYTES, WORDS};
 
 // The low byte of a word.
@@ -23,15 +22,15 @@ fn number_at<'a>(bytes: &'a [u8; BYTES], words: &'a [u32; WORDS], i: usize) -> u
     ensures { result ≡ get_or (numbers_of (state_in bytes.now words.now)) i 0 }
 {
     if 6 <= i {
-        return word8(memory::carried(bytes, i - 6));
+        return u32::from(memory::carried(bytes, i - 6));
     }
     match i {
-        0 => word8(memory::devices(bytes)),
+        0 => u32::from(memory::devices(bytes)),
         1 => memory::links(words),
-        2 => word8(memory::callback(bytes)),
-        3 => word8(memory::asked(bytes)),
-        4 => word8(memory::target(bytes)),
-        _ => word8(memory::used(bytes)),
+        2 => u32::from(memory::callback(bytes)),
+        3 => u32::from(memory::asked(bytes)),
+        4 => u32::from(memory::target(bytes)),
+        _ => u32::from(memory::used(bytes)),
     }
 }
 
@@ -45,20 +44,14 @@ pub extern "C" fn tests_cell<'a>(
 ) -> u32
     ensures { result ≡ cell_of (state_in bytes.now words.now) field row }
 {
-    let i = wide(row);
-    if field < 5 {
-        return word8(memory::byte_at(bytes, field as usize, i));
+    let i = usize::from(row);
+    match field {
+        0..=4 => u32::from(memory::byte_at(bytes, usize::from(field), i)),
+        5..=7 => u32::from(memory::link_at(bytes, usize::from(field - 5), i)),
+        8..=10 => memory::word_at(words, usize::from(field - 8), i),
+        11 => number_at(bytes, words, i),
+        _ => 0,
     }
-    if field < 8 {
-        return word8(memory::link_at(bytes, (field - 5) as usize, i));
-    }
-    if field < 11 {
-        return memory::word_at(words, (field - 8) as usize, i);
-    }
-    if field < 12 {
-        return number_at(bytes, words, i);
-    }
-    0
 }
 
 // How many bytes are carried becomes v.
@@ -115,21 +108,13 @@ pub extern "C" fn tests_set_cell(
 )
     ensures { CellSet field row value bytes.old words.old bytes.new words.new }
 {
-    let i = wide(row);
+    let i = usize::from(row);
     let v = low(value);
-    if field < 5 {
-        memory::set_byte_at(bytes, field as usize, i, v);
-        return;
-    }
-    if field < 8 {
-        memory::set_link_at(bytes, (field - 5) as usize, i, v);
-        return;
-    }
-    if field < 11 {
-        memory::set_word_at(words, (field - 8) as usize, i, value);
-        return;
-    }
-    if field < 12 {
-        set_number(bytes, words, i, value);
+    match field {
+        0..=4 => memory::set_byte_at(bytes, usize::from(field), i, v),
+        5..=7 => memory::set_link_at(bytes, usize::from(field - 5), i, v),
+        8..=10 => memory::set_word_at(words, usize::from(field - 8), i, value),
+        11 => set_number(bytes, words, i, value),
+        _ => {}
     }
 }

@@ -7,7 +7,6 @@ ghost use Rattle.request_answer.specs.Promises.{reply_of};
 ghost use Rattle.model.specs.SoundTest.{sound_test};
 ghost use Rattle.export_states.specs.Exported.{packed, StatusSet, StepIs};
 
-use basics::word8;
 use memory::{BYTES, WORDS};
 use record_kinds::Record;
 use request_answer::Reply;
@@ -33,8 +32,7 @@ pub extern "C" fn tests_sound<'a>(bytes: &'a [u8; BYTES], words: &'a [u32; WORDS
 fn pack(reply: Reply) -> u32
     ensures { result ≡ packed (reply_of reply) }
 {
-    let code = reply.code as u32;
-    word8(reply.kind) + 256 * word8(reply.device) + 65536 * code
+    u32::from(reply.kind) + 256 * u32::from(reply.device) + 65536 * u32::from(reply.code)
 }
 
 // One record: the reply to it as one number.
@@ -51,9 +49,9 @@ pub extern "C" fn tests_step(
 {
     let first = links::index(bytes, words);
     let record = Record {
-        kind: kind,
-        device: device,
-        value: value,
+        kind,
+        device,
+        value,
     };
     let reply = record_step::step(bytes, words, &first, record);
     pack(reply)

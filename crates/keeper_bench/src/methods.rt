@@ -5,17 +5,14 @@ use crate::Bench;
 use record_kinds::Record;
 use request_answer::Reply;
 
-// What a request is answered: the bench is not sound (21), or the record's reply.
-#[derive(Clone, Copy)]
-pub enum Outcome {
-    Unsound,
-    Replied(Reply),
-}
+// Why a request has no reply: the bench is not sound (21).
+#[derive(Clone, Copy, Debug, PartialEq, Eq)]
+pub struct Unsound;
 
-// The answer to a request, and the bench it leaves.
+// The record's reply, and the bench it leaves.
 #[derive(Clone, Copy)]
 pub struct Requested {
-    pub outcome: Outcome,
+    pub outcome: Result<Reply, Unsound>,
     pub bench: Bench,
 }
 
@@ -26,7 +23,7 @@ impl Bench {
     {
         if !self.sound() {
             return Requested {
-                outcome: Outcome::Unsound,
+                outcome: Err(Unsound),
                 bench: self,
             };
         }
@@ -42,7 +39,7 @@ impl Bench {
         self.bytes = bytes;
         self.words = words;
         Requested {
-            outcome: Outcome::Replied(reply),
+            outcome: Ok(reply),
             bench: self,
         }
     }

@@ -1,7 +1,7 @@
 // The records of a piece of log one after another.
 #![tactic(auto)]
 
-ghost use Rattle.std.specs.Prelude.{◌≡◌, ◌+◌, ◌*◌, ◌≤◌, length};
+ghost use Rattle.std.specs.Prelude.{◌≡◌, ◌+◌, ◌≤◌, length};
 ghost use Rattle.model.specs.Limits.{MAXPIECE};
 ghost use Rattle.model.specs.Records.{reply_bytes};
 ghost use Rattle.request_answer.specs.Promises.{reply_of};
@@ -14,13 +14,6 @@ use model::PIECE;
 use record_kinds::Record;
 use request_answer::Reply;
 
-// Two bytes as a number, the low one first.
-fn word(low: u8, high: u8) -> u16
-    ensures { result ≡ low + 256 * high }
-{
-    (low as u16) + 256 * (high as u16)
-}
-
 // The record at byte j of the piece, read whole.
 fn record_in(piece: &[u8], j: usize) -> Record
     requires { (j + 4 ≤ length piece.now) × (length piece.now ≤ MAXPIECE) }
@@ -29,7 +22,7 @@ fn record_in(piece: &[u8], j: usize) -> Record
     Record {
         kind: piece[j],
         device: piece[j + 1],
-        value: word(piece[j + 2], piece[j + 3]),
+        value: u16::from_le_bytes([piece[j + 2], piece[j + 3]]),
     }
 }
 
@@ -38,11 +31,8 @@ fn write_reply(replies: &mut [u8], i: usize, reply: Reply)
     requires { i + 4 ≤ length replies.old }
     ensures { replies.new ≡ over_at i (reply_bytes (reply_of reply)) replies.old }
 {
-    let code = reply.code;
-    replies[i] = reply.kind;
-    replies[i + 1] = reply.device;
-    replies[i + 2] = (code % 256) as u8;
-    replies[i + 3] = (code / 256) as u8;
+    let [low, high] = reply.code.to_le_bytes();
+    replies[i..i + 4].copy_from_slice(&[reply.kind, reply.device, low, high]);
 }
 
 // Answers the whole records of a source, each at its record's place in the buffer. Where the source is longer than a piece may be, or the
@@ -64,11 +54,9 @@ pub fn answer_records<'a>(
     if replies.len() < 4 * count {
         return;
     }
-    let mut k: usize = 0;
-    while k < count {
+    for k in 0..count {
         let record = record_in(source, 4 * k);
         let reply = record_step::step(bytes, words, first, record);
         write_reply(replies, 4 * k, reply);
-        k += 1;
     }
 }

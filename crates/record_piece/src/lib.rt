@@ -10,43 +10,43 @@ use memory::{BYTES, WORDS};
 use model::PIECE;
 
 // The bytes carried from the piece before, and how many they are.
-#[derive(Clone, Copy)]
+#[derive(Clone, Copy, Debug, PartialEq, Eq)]
 pub struct Carried {
     pub bytes: [u8; 3],
     pub used: usize,
 }
 
 // Byte i of the carried bytes and the piece after them; 0 past their end.
-fn byte(carried: [u8; 3], used: usize, piece: &[u8], i: usize) -> u8
-    requires { used ≤ 3 }
-    ensures { result ≡ get_or (joined carried used piece.now) i 0 }
+fn byte(carried: Carried, piece: &[u8], i: usize) -> u8
+    requires { carried.used ≤ 3 }
+    ensures { result ≡ get_or (joined carried.bytes carried.used piece.now) i 0 }
 {
-    if i < used {
-        return carried[i];
+    if i < carried.used {
+        return carried.bytes[i];
     }
-    table_entries::byte_at(piece, i - used)
+    table_entries::byte_at(piece, i - carried.used)
 }
 
 // The four bytes that the carried bytes begin and the piece goes on with.
-fn head(carried: [u8; 3], used: usize, piece: &[u8]) -> [u8; 4]
-    requires { used ≤ 3 }
-    ensures { result ≡ four_in (joined carried used piece.now) }
+fn head(carried: Carried, piece: &[u8]) -> [u8; 4]
+    requires { carried.used ≤ 3 }
+    ensures { result ≡ four_in (joined carried.bytes carried.used piece.now) }
 {
-    let a = byte(carried, used, piece, 0);
-    let b = byte(carried, used, piece, 1);
-    let c = byte(carried, used, piece, 2);
-    let d = byte(carried, used, piece, 3);
+    let a = byte(carried, piece, 0);
+    let b = byte(carried, piece, 1);
+    let c = byte(carried, piece, 2);
+    let d = byte(carried, piece, 3);
     [a, b, c, d]
 }
 
 // The bytes from byte i on, of which at most three are left; zeros after them.
-fn rest(carried: [u8; 3], used: usize, piece: &[u8], i: usize) -> [u8; 3]
-    requires { At used i }
-    ensures { result ≡ rest_in (joined carried used piece.now) i }
+fn rest(carried: Carried, piece: &[u8], i: usize) -> [u8; 3]
+    requires { At carried.used i }
+    ensures { result ≡ rest_in (joined carried.bytes carried.used piece.now) i }
 {
-    let a = byte(carried, used, piece, i);
-    let b = byte(carried, used, piece, i + 1);
-    let c = byte(carried, used, piece, i + 2);
+    let a = byte(carried, piece, i);
+    let b = byte(carried, piece, i + 1);
+    let c = byte(carried, piece, i + 2);
     [a, b, c]
 }
 
@@ -64,9 +64,7 @@ fn answer_first<'a>(
         (four_in (joined carried.bytes carried.used piece.now))
         bytes.new words.new replies.new }
 {
-    let held = carried.bytes;
-    let used = carried.used;
-    let front = head(held, used, piece);
+    let front = head(carried, piece);
     record_loop::answer_records(bytes, words, first, &front, replies);
 }
 
@@ -126,7 +124,6 @@ pub fn answer_piece<'a>(
     ensures { PieceAnswered first.now bytes.old words.old replies.old
         carried.bytes carried.used piece.now bytes.new words.new replies.new result }
 {
-    let held = carried.bytes;
     let used = carried.used;
     if 3 < used {
         return [0, 0, 0];
@@ -139,5 +136,5 @@ pub fn answer_piece<'a>(
         return [0, 0, 0];
     }
     answer_all(bytes, words, first, carried, piece, replies);
-    rest(held, used, piece, whole)
+    rest(carried, piece, whole)
 }

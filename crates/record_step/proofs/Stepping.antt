@@ -16,8 +16,9 @@ use Rattle.std.specs.Prelude.{Option, Some, None}
 use Rattle.record_kinds.specs.declared.Refusal.{Refusal}
 use Rattle.record_kinds.specs.declared.Refusal.TheVariants as refusal
 use Rattle.record_kinds.specs.Kinds.{refusal_of}
-use Rattle.record_step.specs.declared.CallbackKind.{CallbackKind}
-use Rattle.record_step.specs.declared.CallbackKind.TheVariants.{Suspend, Resume, Idle}
+use Rattle.request_answer.specs.Promises.{callback_number}
+use Rattle.request_answer.specs.declared.CallbackKind.{CallbackKind}
+use Rattle.request_answer.specs.declared.CallbackKind.TheVariants.{Suspend, Resume, Idle}
 use Rattle.record_step.specs.declared.Open.{Open}
 use Rattle.record_step.specs.Records.{opened_as, open_in}
 
@@ -57,14 +58,9 @@ module _ (s : State) (r : Rec) {n f : ℕ} (many : n ≡ s.wiring.n) (told : f �
       record_asks o = rw (fault_is, le-ltb 0 f fine, ne_eqb r.kind RESULT ne, o)
 
 -- ---- the open callback from its number
-abbrev kind_number : CallbackKind → ℕ
-kind_number Suspend = 1
-kind_number Resume = 2
-kind_number Idle = 3
-
 abbrev number_of : Option Open → ℕ
 number_of None = 0
-number_of (Some o) = kind_number o.kind
+number_of (Some o) = callback_number o.kind
 
 abbrev asked_of : Option Open → ℕ
 asked_of None = 0
@@ -100,7 +96,7 @@ module _ (s : State) (p v : ℕ) where
   unfolding result_step when◌then◌else◌
   result_none e = rw (read e).zero_test
 
-  some : (k : CallbackKind) → kind_number k ≡ 0 → ⊥
+  some : (k : CallbackKind) → callback_number k ≡ 0 → ⊥
   some Suspend e = omega arith
   some Resume e = omega arith
   some Idle e = omega arith
@@ -109,7 +105,7 @@ module _ (s : State) (p v : ℕ) where
     pub result_other : (p ≡ q → ⊥) → result_step s p v ≡ refused s p 15
     unfolding result_step when◌then◌else◌
     result_other ne =
-        rw ((read e).zero_test, ne_eqb (kind_number k) 0 (some k), ne_eqb p s.callback.asked (λ z. ne (z ∙ sym ((read e).asked (some k)))))
+        rw ((read e).zero_test, ne_eqb (callback_number k) 0 (some k), ne_eqb p s.callback.asked (λ z. ne (z ∙ sym ((read e).asked (some k)))))
 
     pub target_is : t ≡ s.callback.target
     target_is = (read e).target (some k)

@@ -9,7 +9,7 @@ use Rattle.memory.specs.Ready.{Full}
 use Rattle.links.specs.Firsts.{Indexed}
 use Rattle.request_answer.specs.declared.Reply.{Reply}
 use Rattle.request_answer.specs.Promises.{reply_of, Stays}
-use Rattle.record_step.specs.declared.CallbackKind.TheVariants.{Suspend, Resume, Idle}
+use Rattle.request_answer.specs.declared.CallbackKind.TheVariants.{Suspend, Resume, Idle}
 use Rattle.record_step.specs.declared.Open.{Open}
 
 -- ---- the open callback by its kind's number: every number but 0 to 2 is read as idle, as the model does

@@ -12,7 +12,7 @@ use links::FIRSTS;
 use memory::{BYTES, WORDS};
 use model::EINPROGRESS;
 use record_kinds::{RESULT, Record};
-use request_answer::{Reply, finished};
+use request_answer::{CallbackKind, Reply, finished};
 
 // Refused with a number.
 fn refused(device: u8, number: u16) -> Reply
@@ -27,16 +27,8 @@ fn refused(device: u8, number: u16) -> Reply
 
 // ---- kind 13
 
-// The callbacks that the host runs.
-#[derive(Clone, Copy, Debug, PartialEq, Eq)]
-enum CallbackKind {
-    Suspend,
-    Resume,
-    Idle,
-}
-
 // An open callback: its kind, the device asked, and the device that was requested ("target").
-#[derive(Clone, Copy, Debug, PartialEq, Eq)]
+#[derive(Clone, Copy)]
 struct Open {
     kind: CallbackKind,
     asked: u8,
@@ -54,7 +46,7 @@ fn open_callback<'a>(bytes: &'a [u8; BYTES]) -> Option<Open>
         _ => CallbackKind::Idle,
     };
     Some(Open {
-        kind: kind,
+        kind,
         asked: memory::asked(bytes),
         target: memory::target(bytes),
     })

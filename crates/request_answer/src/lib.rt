@@ -4,8 +4,8 @@
 ghost use Rattle.std.specs.Prelude.{◌≡◌};
 ghost use Rattle.request_answer.specs.Promises.{callback_number, magnitude};
 
-// A callback, by its kind.
-#[derive(Clone, Copy, PartialEq, Eq)]
+// The kind of a callback that the host runs.
+#[derive(Clone, Copy, Debug, PartialEq, Eq)]
 pub enum CallbackKind {
     Suspend,
     Resume,

@@ -1,6 +1,6 @@
--- Suppliers that are not active, found among the links of one device; two tests of which the second is made first. Assumes nothing.
-use mathlib.Core.Path.{◌≡◌, refl, sym}
-use mathlib.Core.Bool.{Bool, true, false}
+-- Suppliers that are not active, found among the links of one device; and the requests as changes of the state. Assumes nothing.
+use mathlib.Core.Path.{◌≡◌, sym}
+use mathlib.Core.Bool.{true, false}
 use mathlib.Core.List.{List}
 use Prim.Native.Nat.{ℕ, ◌+◌, ◌<◌, ◌≤◌}
 use native.Mathlib.Omega.{arith}
@@ -8,7 +8,7 @@ use native.Mathlib.Decide.{ℕ_discrete}
 use lib.ListN.{get_or}
 use borrow.Author.Tests.{eq-eqb, ne_eqb}
 use Rattle.model.specs.Limits.{ROWS, LINKS, EBUSY, minus}
-use Rattle.model.specs.Logic.{◌and◌, when◌then◌else◌, ◌or◌}
+use Rattle.model.specs.Logic.{when◌then◌else◌}
 use Rattle.model.specs.State.{State, ACTIVE, SUSPENDED, with_status, with_error, with_ignore}
 use Rattle.model.specs.Requests.{running, parent_down, supplier_down, needed, set_active, set_suspended, ignore_children}
 use Rattle.model.specs.Records.{finished}
@@ -45,14 +45,6 @@ module _ {s : State} {first : List ℕ} (h : Indexed s first) (p : ℕ) (l : p <
         | yes e ↦ let o = of_link h.ready.rules.order p i b e in rw (eq-eqb _ _ e) (none i (rw from_first o.0) (rw to_next o.1))
         | no ne ↦ rw (ne_eqb _ _ ne)
       ]))
-
-pub or_last : (x : Bool) {y : Bool} → y ≡ true → true ≡ x or y
-or_last true e = refl
-or_last false e = sym e
-
-pub or_rest : (x : Bool) {y r : Bool} → y ≡ false → r ≡ x → r ≡ x or y
-or_rest true e h = h
-or_rest false {y} {r} e h = rw e h
 
 -- ---- the requests as changes of the state, whatever the states are
 module _ (s : State) (p : ℕ) where

@@ -8,7 +8,6 @@ ghost use Rattle.memory.specs.Layout.{state_in};
 ghost use Rattle.request_answer.specs.Promises.{LeadsBy};
 ghost use Rattle.request_set.specs.Sets.{link_down, inactive_with_children, Down, IgnoreLeads};
 
-use basics::{row, wide};
 use links::FIRSTS;
 use memory::{BYTES, WORDS};
 use memory_links::{flags, supplier};
@@ -21,10 +20,7 @@ use request_answer::{Reply, finished};
 fn running<'a>(bytes: &'a [u8; BYTES], words: &'a [u32; WORDS], p: u8) -> bool
     ensures { result ≡ running (state_in bytes.now words.now) p }
 {
-    if depth(bytes, p) != 0 {
-        return false;
-    }
-    error(words, p) == 0
+    (depth(bytes, p) == 0) & (error(words, p) == 0)
 }
 
 // The parent of device p, if it has one, counts its children and is not active.
@@ -32,13 +28,8 @@ fn parent_down<'a>(bytes: &'a [u8; BYTES], p: u8) -> bool
     ensures { (words : List ℕ) → result ≡ parent_down (state_in bytes.now words) p }
 {
     let q = parent(bytes, p);
-    if q == NONE {
-        return false;
-    }
-    if ignore(bytes, q) != 0 {
-        return false;
-    }
-    status(bytes, q) != ACTIVE
+    let down = (ignore(bytes, q) == 0) & (status(bytes, q) != ACTIVE);
+    (q != NONE) & down
 }
 
 // Link i is a runtime link, and its supplier is not active.
@@ -46,28 +37,24 @@ fn link_down<'a>(bytes: &'a [u8; BYTES], i: usize) -> bool
     requires { i < LINKS }
     ensures { (words : List ℕ) → result ≡ link_down (state_in bytes.now words) i }
 {
-    if flags(bytes, i) % 2 != 1 {
-        return false;
-    }
     let q = supplier(bytes, i);
-    status(bytes, q) != ACTIVE
+    (flags(bytes, i) % 2 == 1) & (status(bytes, q) != ACTIVE)
 }
 
 // A runtime supplier of device p is not active.
 fn supplier_down<'a>(bytes: &'a [u8; BYTES], first: &'a [u16; FIRSTS], p: u8) -> bool
     ensures { Down first.now bytes.now p result }
 {
-    let at = row(p);
-    let mut i = wide(first[at]);
-    let end = wide(first[at + 1]);
+    let at = usize::from(p);
+    let begin = usize::from(first[at]);
+    let end = usize::from(first[at + 1]);
     if LINKS < end {
         return true;
     }
-    while i < end {
+    for i in begin..end {
         if link_down(bytes, i) {
             return true;
         }
-        i += 1;
     }
     false
 }
@@ -99,13 +86,8 @@ pub fn set_active<'a>(
 fn needed<'a>(bytes: &'a [u8; BYTES], words: &'a [u32; WORDS], p: u8) -> bool
     ensures { result ≡ needed (state_in bytes.now words.now) p }
 {
-    if 0 < linked(words, p) {
-        return true;
-    }
-    if children(bytes, p) < 1 {
-        return false;
-    }
-    ignore(bytes, p) == 0
+    let children = (0 < children(bytes, p)) & (ignore(bytes, p) == 0);
+    children | (0 < linked(words, p))
 }
 
 // Kind 11.
@@ -132,10 +114,7 @@ pub fn set_suspended<'a>(
 fn inactive_with_children<'a>(bytes: &'a [u8; BYTES], p: u8) -> bool
     ensures { (words : List ℕ) → result ≡ inactive_with_children (state_in bytes.now words) p }
 {
-    if status(bytes, p) == ACTIVE {
-        return false;
-    }
-    0 < children(bytes, p)
+    (status(bytes, p) != ACTIVE) & (0 < children(bytes, p))
 }
 
 // Kind 12, to v, a value that the kind allows.

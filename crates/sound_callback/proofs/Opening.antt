@@ -6,19 +6,21 @@ use Prim.Native.Nat.{ℕ, ◌<◌, ◌≤◌}
 use native.Mathlib.Omega.{arith}
 use native.Mathlib.Decide.{ℕ_discrete, dec_lt}
 use lib.Dec.{eqb}
+use Rattle.std.specs.Prelude.{Some, None}
 use borrow.Author.Tests.{eq-eqb, ne_eqb, lt-ltb}
 use Rattle.model.specs.Logic.{when◌then◌else◌, ◌and◌, ◌implies◌, all}
-use Rattle.model.specs.State.{State, RESUMING, status_at}
+use Rattle.model.specs.State.{State, RESUMING, SUSPENDING, ACTIVE, status_at}
 use Rattle.model.specs.Sound.{Ordered}
 use Rattle.model.specs.WakeSet.{self, in_wake, lowest}
 use Rattle.model.specs.Requests.{barred, others_barred}
-use Rattle.model.specs.SoundTest.{kept_test, others_steady, members_clear, none_test, suspend_open_test, resume_open_test, idle_open_test, callback_test}
+use Rattle.model.specs.SoundTest.{kept_test, all_steady, others_steady, members_clear, none_test, suspend_open_test, resume_open_test, idle_open_test, callback_test}
 use Rattle.model.proofs.Chains.{and_go}
 use Rattle.model.proofs.Basics.{any_find, and_parts, never, first_low, few_devices_lem, none_rows}
 use Rattle.model.proofs.Logic.{any_fails, all_iff}
 use Rattle.model.proofs.Loops.{all_failed}
 use Rattle.model.proofs.SoundTest.{kept_ordered, kept_unused}
 use Rattle.model.proofs.WakeSet.{wake_iff, first_lowest, powered_empty}
+use Rattle.sound_callback.specs.Parts.{steady_but, open_test}
 use Rattle.links.specs.Firsts.{first_links, Listed}
 
 -- where the columns passed their test, the index is one of links in order
@@ -31,8 +33,8 @@ module _ (s : State) (t : ℕ) where
   unfolding others_barred members_clear ◌implies◌
   clear_not e =
       let w = any_find _ s.wiring.n e in
-      let a = and_parts _ _ w.2 in
-      let b = and_parts _ _ a.1 in
+      let a = and_parts (in_wake s t w.0) (not (eqb w.0 t) and barred s w.0) w.2 in
+      let b = and_parts (not (eqb w.0 t)) (barred s w.0) a.1 in
       all_failed _ s.wiring.n w.0 w.1 (rw (a.0, b.1))
 
   -- none is
@@ -77,10 +79,19 @@ module _ (s : State) (t : ℕ) where
     clear_both false e = clear_if l target_in (sym e)
 
     -- the whole test, where all but its two last parts passed
-    pub resume_last : {o x b f r : Bool} → o ≡ others_steady s p → b ≡ barred s t → f ≡ others_barred s t → x ≡ (not f and not b) → r ≡ (o and x) → r ≡ resume_open_test s p t
-    unfolding resume_open_test
-    resume_last {o} {x} {b} {f} {r} eo eb ef ex er =
-        and_go (lt-ltb _ _ l) (and_go (eq-eqb _ _ low) (and_go (eq-eqb _ _ turned) (rw (← clear_both f ef, ← eb, ← ex, ← eo) er)))
+    pub resume_last : {o b f : Bool} → o ≡ steady_but s (Some p) → b ≡ barred s t → f ≡ others_barred s t → (o and (not f and not b)) ≡ resume_open_test s p t
+    unfolding resume_open_test steady_but others_steady
+    resume_last {o} {b} {f} eo eb ef =
+        and_go (lt-ltb _ _ l) (and_go (eq-eqb _ _ low) (and_go (eq-eqb _ _ turned) (rw (← clear_both f ef, ← eb, eo))))
+
+-- ---- with one device left out, or none
+pub steady_all : (s : State) → steady_but s None ≡ all_steady s
+unfolding steady_but all_steady
+steady_all s = refl
+
+pub steady_others : (s : State) (p : ℕ) → steady_but s (Some p) ≡ others_steady s p
+unfolding steady_but others_steady
+steady_others s p = refl
 
 -- ---- by the callback's kind
 module _ (s : State) where
@@ -88,16 +99,16 @@ module _ (s : State) where
   unfolding callback_test when◌then◌else◌
   kind_none e = rw (eq-eqb s.callback.kind 0 e)
 
-  pub kind_suspend : s.callback.kind ≡ 1 → suspend_open_test s s.callback.asked ≡ callback_test s
-  unfolding callback_test when◌then◌else◌
+  pub kind_suspend : s.callback.kind ≡ 1 → open_test SUSPENDING (Some s.callback.asked) s s.callback.asked ≡ callback_test s
+  unfolding callback_test suspend_open_test open_test steady_but others_steady when◌then◌else◌
   kind_suspend e = rw (ne_eqb s.callback.kind 0 (λ z. omega arith), eq-eqb s.callback.kind 1 e)
 
   pub kind_resume : s.callback.kind ≡ 2 → resume_open_test s s.callback.asked s.callback.target ≡ callback_test s
   unfolding callback_test when◌then◌else◌
   kind_resume e = rw (ne_eqb s.callback.kind 0 (λ z. omega arith), ne_eqb s.callback.kind 1 (λ z. omega arith), eq-eqb s.callback.kind 2 e)
 
-  pub kind_idle : s.callback.kind ≡ 3 → idle_open_test s s.callback.asked ≡ callback_test s
-  unfolding callback_test when◌then◌else◌
+  pub kind_idle : s.callback.kind ≡ 3 → open_test ACTIVE None s s.callback.asked ≡ callback_test s
+  unfolding callback_test idle_open_test open_test steady_but all_steady when◌then◌else◌
   kind_idle e = rw (ne_eqb s.callback.kind 0 (λ z. omega arith), ne_eqb s.callback.kind 1 (λ z. omega arith), ne_eqb s.callback.kind 2 (λ z. omega arith), eq-eqb s.callback.kind 3 e)
 
   pub kind_other : (s.callback.kind ≡ 0 → ⊥) → (s.callback.kind ≡ 1 → ⊥) → (s.callback.kind ≡ 2 → ⊥) → (s.callback.kind ≡ 3 → ⊥) → false ≡ callback_test s

@@ -1,7 +1,9 @@
 -- Parts of the soundness test that have functions of their own, and what a test of the open callback promises. Assumes nothing.
-use Rattle.std.specs.Prelude.{◌≡◌, Bool, true, List, ℕ, get_or, leb, eqb}
-use Rattle.model.specs.Logic.{◌or◌, ◌implies◌}
-use Rattle.model.specs.State.{State, Carry}
+use Rattle.std.specs.Prelude.{◌≡◌, Bool, true, List, Option, Some, ℕ, get_or, leb, ltb, eqb}
+use Rattle.std.specs.Option.{option_eq}
+use Rattle.model.specs.Logic.{◌and◌, ◌or◌, ◌implies◌, all}
+use Rattle.model.specs.State.{State, Carry, status_at}
+use Rattle.model.specs.Requests.{suspend_test}
 use Rattle.model.specs.SoundTest.{steady_test, kept_test, resume_open_test, sound_test}
 use Rattle.memory.specs.Layout.{state_in}
 use Rattle.links.specs.Firsts.{first_links, IndexIs}
@@ -10,9 +12,13 @@ use Rattle.links.specs.Firsts.{first_links, IndexIs}
 unfoldable pub spare_test : Carry → ℕ → Bool
 spare_test c i = leb c.used i implies eqb (get_or c.bytes i 0) 0
 
--- q is p, or not in change
-unfoldable pub other_steady : State → ℕ → ℕ → Bool
-other_steady s p q = eqb q p or steady_test s q
+-- no device is in change but the one left out: `all_steady` where none is, else `others_steady`
+unfoldable pub steady_but : State → Option ℕ → Bool
+steady_but s left = all (λ q. option_eq eqb (Some q) left or steady_test s q) s.wiring.n
+
+-- a callback of p is open, at status v: `suspend_open_test` for SUSPENDING with p left out, `idle_open_test` for ACTIVE with none
+unfoldable pub open_test : ℕ → Option ℕ → State → ℕ → Bool
+open_test v left s p = ltb p s.wiring.n and eqb s.callback.target p and eqb (status_at s p) v and steady_but s left and eqb (suspend_test s p) 0
 
 -- a test that reads bytes alone, whatever the words are
 pub record Tells (test : State → Bool) (bytes : List ℕ) (r : Bool) : Type 0 where

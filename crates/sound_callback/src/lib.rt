@@ -3,12 +3,10 @@
 #![tactic(auto)]
 
 ghost use Rattle.std.specs.Prelude.{◌≡◌, ◌<◌};
-ghost use Rattle.model.specs.SoundTest.{carried_test, steady_test, all_steady, others_steady, none_test, suspend_open_test};
-ghost use Rattle.model.specs.SoundTest.{idle_open_test, callback_test, sound_test};
+ghost use Rattle.model.specs.SoundTest.{carried_test, steady_test, none_test, callback_test, sound_test};
 ghost use Rattle.memory.specs.Layout.{state_in};
-ghost use Rattle.sound_callback.specs.Parts.{spare_test, other_steady, of_asked, of_resume, Tells, Judges, SoundBy};
+ghost use Rattle.sound_callback.specs.Parts.{spare_test, steady_but, open_test, of_asked, of_resume, Tells, Judges, SoundBy};
 
-use basics::{both, row};
 use links::FIRSTS;
 use memory::{BYTES, WORDS, asked, devices, target};
 use memory_rows::status;
@@ -22,7 +20,7 @@ fn spare_good<'a>(bytes: &'a [u8; BYTES], i: usize) -> bool
     requires { i < 3 }
     ensures { Tells (λ s. spare_test s.carry i) bytes.now result }
 {
-    if i < row(memory::used(bytes)) {
+    if i < usize::from(memory::used(bytes)) {
         return true;
     }
     memory::carried(bytes, i) == 0
@@ -33,12 +31,10 @@ fn carried_good<'a>(bytes: &'a [u8; BYTES]) -> bool
     ensures { Tells (λ s. carried_test s.carry) bytes.now result }
 {
     let mut good = true;
-    let mut i: usize = 0;
-    while i < 3 {
-        good = both(spare_good(bytes, i), good);
-        i += 1;
+    for i in 0..3 {
+        good = spare_good(bytes, i) & good;
     }
-    both(memory::used(bytes) <= 3, good)
+    (memory::used(bytes) <= 3) & good
 }
 
 // ---- devices in change
@@ -48,43 +44,17 @@ fn steady<'a>(bytes: &'a [u8; BYTES], q: u8) -> bool
     ensures { Tells (λ s. steady_test s q) bytes.now result }
 {
     let v = status(bytes, q);
-    both(v != RESUMING, v != SUSPENDING)
+    (v != RESUMING) & (v != SUSPENDING)
 }
 
-// No device is in change.
-fn all_steady<'a>(bytes: &'a [u8; BYTES]) -> bool
-    ensures { Tells all_steady bytes.now result }
+// No device is in change but the one left out, if any.
+fn others_steady<'a>(bytes: &'a [u8; BYTES], left: Option<u8>) -> bool
+    ensures { Tells (λ s. steady_but s left) bytes.now result }
 {
     let n = devices(bytes);
     let mut good = true;
-    let mut q: u8 = 0;
-    while q < n {
-        good = both(steady(bytes, q), good);
-        q += 1;
-    }
-    good
-}
-
-// Device q is p, or not in change.
-fn other_steady<'a>(bytes: &'a [u8; BYTES], p: u8, q: u8) -> bool
-    ensures { Tells (λ s. other_steady s p q) bytes.now result }
-{
-    if q == p {
-        return true;
-    }
-    steady(bytes, q)
-}
-
-// No device but p is in change.
-fn others_steady<'a>(bytes: &'a [u8; BYTES], p: u8) -> bool
-    ensures { Tells (λ s. others_steady s p) bytes.now result }
-{
-    let n = devices(bytes);
-    let mut good = true;
-    let mut q: u8 = 0;
-    while q < n {
-        good = both(other_steady(bytes, p, q), good);
-        q += 1;
+    for q in 0..n {
+        good = ((Some(q) == left) | steady(bytes, q)) & good;
     }
     good
 }
@@ -95,30 +65,20 @@ fn others_steady<'a>(bytes: &'a [u8; BYTES], p: u8) -> bool
 fn none_open<'a>(bytes: &'a [u8; BYTES]) -> bool
     ensures { Tells none_test bytes.now result }
 {
-    let none = both(target(bytes) == 0, all_steady(bytes));
-    both(asked(bytes) == 0, none)
+    let none = (target(bytes) == 0) & others_steady(bytes, None);
+    (asked(bytes) == 0) & none
 }
 
-// A suspend callback of the device asked is open.
-fn suspend_open<'a>(bytes: &'a [u8; BYTES], words: &'a [u32; WORDS]) -> bool
-    ensures { result ≡ of_asked suspend_open_test (state_in bytes.now words.now) }
+// A callback of the device asked is open: the device is its own target and has the status v, it passes the suspend test, and no device is
+// in change but the one left out, if any.
+fn asked_open<'a>(bytes: &'a [u8; BYTES], words: &'a [u32; WORDS], v: u8, left: Option<u8>) -> bool
+    ensures { result ≡ of_asked (open_test v left) (state_in bytes.now words.now) }
 {
     let p = asked(bytes);
-    let still = both(others_steady(bytes, p), suspend_test(bytes, words, p) == 0);
-    let turned = both(status(bytes, p) == SUSPENDING, still);
-    let own = both(target(bytes) == p, turned);
-    both(p < devices(bytes), own)
-}
-
-// An idle callback of the device asked is open.
-fn idle_open<'a>(bytes: &'a [u8; BYTES], words: &'a [u32; WORDS]) -> bool
-    ensures { result ≡ of_asked idle_open_test (state_in bytes.now words.now) }
-{
-    let p = asked(bytes);
-    let still = both(all_steady(bytes), suspend_test(bytes, words, p) == 0);
-    let turned = both(status(bytes, p) == ACTIVE, still);
-    let own = both(target(bytes) == p, turned);
-    both(p < devices(bytes), own)
+    let still = others_steady(bytes, left) & (suspend_test(bytes, words, p) == 0);
+    let turned = (status(bytes, p) == v) & still;
+    let own = (target(bytes) == p) & turned;
+    (p < devices(bytes)) & own
 }
 
 // A resume callback of the device asked is open: it is the lowest of the wake set of the target, where nothing is barred.
@@ -141,11 +101,12 @@ fn resume_open<'a>(
     if status(bytes, p) != RESUMING {
         return false;
     }
-    let clear = both(!found.barred, !wake_rules::bars(bytes, words, t));
-    both(others_steady(bytes, p), clear)
+    let clear = !found.barred & !wake_rules::bars(bytes, words, t);
+    others_steady(bytes, Some(p)) & clear
 }
 
-// The open callback agrees with the devices.
+// The open callback agrees with the devices. In a suspend callback, of kind 1, the device asked is suspending and no other is in change;
+// in an idle callback, of kind 3, it is active and none is.
 fn callback_good<'a>(
     bytes: &'a [u8; BYTES],
     words: &'a [u32; WORDS],
@@ -155,9 +116,9 @@ fn callback_good<'a>(
 {
     match memory::callback(bytes) {
         0 => none_open(bytes),
-        1 => suspend_open(bytes, words),
+        1 => asked_open(bytes, words, SUSPENDING, Some(asked(bytes))),
         2 => resume_open(bytes, words, first),
-        3 => idle_open(bytes, words),
+        3 => asked_open(bytes, words, ACTIVE, None),
         _ => false,
     }
 }
@@ -173,7 +134,7 @@ pub fn sound_by<'a>(
     if !sound_columns::well_kept(bytes, words) {
         return false;
     }
-    both(carried_good(bytes), callback_good(bytes, words, first))
+    carried_good(bytes) & callback_good(bytes, words, first)
 }
 
 // The bench is sound.

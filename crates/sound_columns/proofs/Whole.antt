@@ -1,6 +1,6 @@
 -- The parts of the test put together. Assumes nothing.
 use mathlib.Core.Path.{◌≡◌, refl}
-use mathlib.Core.Bool.{Bool, true, false}
+use mathlib.Core.Bool.{Bool, true, false, ◌&&◌}
 use mathlib.Core.List.{List}
 use Prim.Native.Nat.{ℕ, ◌-◌, ◌<◌, ◌≤◌}
 use borrow.Author.Tests.{le-leb, lt-leb}
@@ -28,7 +28,7 @@ and_assoc : (x y z : Bool) → (x and y) and z ≡ x and (y and z)
 and_assoc true y z = refl
 and_assoc false y z = refl
 
-pub wiring_parts : (s : State) {a b c d e f g h x1 x2 x3 x4 x5 x6 r : Bool}
+pub wiring_parts : (s : State) {a b c d e f g h : Bool}
     → a ≡ column_test ROWS s.wiring.n 255 s.wiring.parent
     → b ≡ column_test ROWS s.wiring.n 1 s.wiring.ignore
     → c ≡ column_test LINKS s.wiring.m 255 s.wiring.consumer
@@ -37,12 +37,11 @@ pub wiring_parts : (s : State) {a b c d e f g h x1 x2 x3 x4 x5 x6 r : Bool}
     → f ≡ all (parent_fits s) s.wiring.n
     → g ≡ all (ends_fit s.wiring.n s) s.wiring.m
     → h ≡ all (ascends_in s.wiring) (s.wiring.m - 1)
-    → x1 ≡ (d and e) → x2 ≡ (c and x1) → x3 ≡ (b and x2) → x4 ≡ (a and x3) → x5 ≡ (g and h) → x6 ≡ (f and x5) → r ≡ (x4 and x6)
-    → r ≡ wiring_test s.wiring
+    → ((((((a && b) && c) && d) && e) && f) && g) && h ≡ wiring_test s.wiring
 unfolding wiring_test parent_fits ends_fit
-wiring_parts s ea eb ec ed ee ef eg eh e1 e2 e3 e4 e5 e6 er = rw (er, e4, e3, e2, e1, e6, e5, ea, eb, ec, ed, ee, ef, eg, eh) (simp and_assoc)
+wiring_parts s ea eb ec ed ee ef eg eh = rw (ea, eb, ec, ed, ee, ef, eg, eh) (simp and_assoc)
 
-pub devices_parts : (w : Wiring) (v : Devices) {a b c d e f g h x1 x2 x3 x4 x5 x6 r : Bool}
+pub devices_parts : (w : Wiring) (v : Devices) {a b c d e f g h : Bool}
     → a ≡ column_test ROWS w.n SUSPENDING v.status
     → b ≡ column_test ROWS w.n MAXHOLDS v.holds
     → c ≡ column_test ROWS w.n MAXDEPTH v.depth
@@ -51,10 +50,9 @@ pub devices_parts : (w : Wiring) (v : Devices) {a b c d e f g h x1 x2 x3 x4 x5 x
     → f ≡ same_test v.linked (linked_of w v.status)
     → g ≡ all (parent_supplies w v.status) w.n
     → h ≡ all (link_supplies w v.status) w.m
-    → x1 ≡ (c and d) → x2 ≡ (b and x1) → x3 ≡ (a and x2) → x4 ≡ (e and f) → x5 ≡ (g and h) → x6 ≡ (x4 and x5) → r ≡ (x3 and x6)
-    → r ≡ devices_test w v
+    → ((((((a && b) && c) && d) && e) && f) && g) && h ≡ devices_test w v
 unfolding devices_test supply_test
-devices_parts w v ea eb ec ed ee ef eg eh e1 e2 e3 e4 e5 e6 er = rw (er, e6, e3, e2, e1, e4, e5, ea, eb, ec, ed, ee, ef, eg, eh) (simp and_assoc)
+devices_parts w v ea eb ec ed ee ef eg eh = rw (ea, eb, ec, ed, ee, ef, eg, eh) (simp and_assoc)
 
 -- the exits of `well_kept`
 module _ (w : Wiring) (v : Devices) where
@@ -70,6 +68,6 @@ module _ (w : Wiring) (v : Devices) where
   unfolding kept_test table_test
   kept_linked a b l = rw (le-leb _ _ a, le-leb _ _ b, lt-leb _ _ l)
 
-  pub kept_all : {x y r : Bool} → 1 ≤ w.n → w.n ≤ DEVICES → w.m ≤ LINKS → x ≡ wiring_test w → y ≡ devices_test w v → r ≡ (x and y) → r ≡ kept_test w v
+  pub kept_all : {x y : Bool} → 1 ≤ w.n → w.n ≤ DEVICES → w.m ≤ LINKS → x ≡ wiring_test w → y ≡ devices_test w v → x && y ≡ kept_test w v
   unfolding kept_test table_test wiring_test devices_test ascends_in
-  kept_all a b l e f g = rw (le-leb _ _ a, le-leb _ _ b, le-leb _ _ l) (rw (e, f) at g)
+  kept_all a b l e f = rw (le-leb _ _ a, le-leb _ _ b, le-leb _ _ l, e, f)

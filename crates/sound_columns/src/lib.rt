@@ -1,5 +1,5 @@
-// The soundness test of a bench but for the open callback and the carried bytes, over a memory of any contents. Its loops go through every
-// row and join the tests, so that a compiler can take several rows at once.
+// The soundness test of a bench but for the open callback and the carried bytes, over a memory of any contents. It goes through every
+// row and joins the tests without a branch.
 #![tactic(auto)]
 
 ghost use Rattle.std.specs.Prelude.{◌≡◌, List, ℕ, ◌-◌, ◌<◌, ◌≤◌};
@@ -10,11 +10,10 @@ ghost use Rattle.sound_rules.specs.Sayings.{Says};
 ghost use Rattle.sound_columns.specs.Parts.{ascends_in, wiring_test, devices_test, kept};
 ghost use Rattle.sound_columns.specs.Sayings.{SaysOf, ChildrenCounted, LinksCounted};
 
-use basics::{both, row, wide32};
 use memory::{BYTES, WORDS};
 use model::{DEVICES, LINKS, ROWS};
 use sound_rows::{
-    byte_column, child_bit, comes_before, link_column, live_bit, same_bytes, same_words,
+    byte_column, child_bit, comes_before, every, link_column, live_bit, same_bytes, same_words,
     word_column,
 };
 use sound_rules::{links_fit, links_supply, parents_good, parents_supply};
@@ -38,13 +37,7 @@ fn links_ascend<'a>(bytes: &'a [u8; BYTES], m: usize) -> bool
     requires { m ≤ LINKS }
     ensures { Says (λ s. all (ascends_in s.wiring) (m - 1)) bytes.now result }
 {
-    let mut good = true;
-    let mut i: usize = 0;
-    while i + 1 < m {
-        good = both(link_ascends(bytes, i), good);
-        i += 1;
-    }
-    good
+    every(m.saturating_sub(1), |i| link_ascends(bytes, i))
 }
 
 // ---- the counts
@@ -54,13 +47,9 @@ fn recount_children<'a>(bytes: &'a [u8; BYTES], n: u8) -> [u8; ROWS]
     ensures { ChildrenCounted n bytes.now result }
 {
     let mut counts = [0u8; ROWS];
-    let mut k: u8 = 0;
-    while k < n {
+    for k in 0..n {
         let parent = memory_rows::parent(bytes, k);
-        let bit = child_bit(parent, memory_rows::status(bytes, k));
-        let q = row(parent);
-        counts[q] = counts[q] + bit;
-        k += 1;
+        counts[usize::from(parent)] += child_bit(parent, memory_rows::status(bytes, k));
     }
     counts
 }
@@ -71,15 +60,11 @@ fn recount_linked<'a>(bytes: &'a [u8; BYTES], m: usize) -> [u32; ROWS]
     ensures { LinksCounted m bytes.now result }
 {
     let mut counts = [0u32; ROWS];
-    let mut k: usize = 0;
-    while k < m {
-        let bit = live_bit(
-            memory_rows::status(bytes, memory_links::consumer(bytes, k)),
-            memory_links::flags(bytes, k),
-        );
-        let q = row(memory_links::supplier(bytes, k));
-        counts[q] = counts[q] + bit;
-        k += 1;
+    for k in 0..m {
+        let consumer = memory_links::consumer(bytes, k);
+        let supplier = memory_links::supplier(bytes, k);
+        let status = memory_rows::status(bytes, consumer);
+        counts[usize::from(supplier)] += live_bit(status, memory_links::flags(bytes, k));
     }
     counts
 }
@@ -91,16 +76,16 @@ fn wiring_good<'a>(bytes: &'a [u8; BYTES], n: u8, m: usize) -> bool
     requires { m ≤ LINKS }
     ensures { (words : List ℕ) → SaysOf (λ s. wiring_test s.wiring) n m (state_in bytes.now words) result }
 {
-    let rows = row(n);
+    let rows = usize::from(n);
     let parent = byte_column(bytes, memory::PARENT, rows, 255);
     let ignore = byte_column(bytes, memory::IGNORE, rows, 1);
     let consumer = link_column(bytes, memory::CONSUMER, m, 255);
     let supplier = link_column(bytes, memory::SUPPLIER, m, 255);
     let flags = link_column(bytes, memory::FLAGS, m, 3);
-    let columns = both(parent, both(ignore, both(consumer, both(supplier, flags))));
+    let columns = parent & ignore & consumer & supplier & flags;
     let fit = links_fit(bytes, n, m);
     let ascend = links_ascend(bytes, m);
-    both(columns, both(parents_good(bytes, n), both(fit, ascend)))
+    columns & parents_good(bytes, n) & fit & ascend
 }
 
 // The columns of the devices' state are in range, the counts are the recounts, and what a device rests on is powered.
@@ -108,19 +93,17 @@ fn devices_good<'a>(bytes: &'a [u8; BYTES], words: &'a [u32; WORDS], n: u8, m: u
     requires { m ≤ LINKS }
     ensures { SaysOf (λ s. devices_test s.wiring s.devices) n m (state_in bytes.now words.now) result }
 {
-    let rows = row(n);
+    let rows = usize::from(n);
     let status = byte_column(bytes, memory::STATUS, rows, model::SUSPENDING);
     let holds = word_column(words, memory::HOLDS, rows, model::MAX_HOLDS);
     let depth = byte_column(bytes, memory::DEPTH, rows, model::MAX_DEPTH);
     let error = word_column(words, memory::ERROR, rows, model::MAX_ERROR);
-    let columns = both(status, both(holds, both(depth, error)));
+    let columns = status & holds & depth & error;
     let below = recount_children(bytes, n);
     let children = same_bytes(bytes, memory::CHILDREN, &below);
     let links = recount_linked(bytes, m);
     let linked = same_words(words, memory::LINKED, &links);
-    let counts = both(children, linked);
-    let supply = both(parents_supply(bytes, n), links_supply(bytes, m));
-    both(columns, both(counts, supply))
+    columns & children & linked & parents_supply(bytes, n) & links_supply(bytes, m)
 }
 
 // The whole.
@@ -134,11 +117,11 @@ pub fn well_kept<'a>(bytes: &'a [u8; BYTES], words: &'a [u32; WORDS]) -> bool
     if DEVICES < n {
         return false;
     }
-    let m = wide32(memory::links(words));
+    let m = memory::links(words) as usize;
     if LINKS < m {
         return false;
     }
     let wiring = wiring_good(bytes, n, m);
     let devices = devices_good(bytes, words, n, m);
-    both(wiring, devices)
+    wiring & devices
 }

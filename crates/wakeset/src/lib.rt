@@ -150,8 +150,5 @@ pub fn reached<'a>(
     let mut marks = [false; ROWS];
     let low = sweep(bytes, first, t, &mut marks);
     let barred = any_barred(bytes, words, &marks, low, t);
-    Reach {
-        low: low,
-        barred: barred,
-    }
+    Reach { low, barred }
 }

@@ -1,8 +1,8 @@
 -- `export_cells::set_number` meets its contract: each arm sets the number that the list has there. Assumes nothing.
-use mathlib.Core.Path.{◌∙◌}
+use mathlib.Core.Path.{◌≡◌, ◌∙◌}
 use native.Mathlib.Omega.{arith}
 use Rattle.export_cells.specs.Cells.{numbers_set, with_number}
-use Rattle.export_cells.proofs.Fields.{carried_set, last_number}
+use Rattle.export_cells.proofs.Fields.{carried_set}
 use Rattle.export_cells.proofs.set_number.Goals as goal
 
 -- a carried byte
@@ -64,5 +64,5 @@ pub returns-in_default : goal.returns-in_default
 unfolding with_number numbers_set
 returns-in_default c =
     let words = c.args.words.now in
-    let last = last_number (omega arith) c.in_default.in_default-own.rest in
+    let last : c.args.i ≡ 5 = omega arith in
     record { is = λ l m. rw last (rw c.low-v.ensures at (c.set_used.ensures words l)) }

@@ -5,25 +5,24 @@ use Rattle.export_cells.proofs.Fields.{byte_cell, link_cell, word_cell, number_c
 use Rattle.export_cells.proofs.tests_cell.Goals as goal
 
 -- a page of bytes of the devices
-pub returns-then-field-lt5 : goal.returns-then-field-lt5
-returns-then-field-lt5 c =
-    byte_cell _ _ _ _ (omega arith) (rw c.wide-i.ensures at (c.word8.ensures ∙ c.byte_at.ensures))
+pub returns-in-0-to-4 : goal.returns-in-0-to-4
+returns-in-0-to-4 c =
+    byte_cell _ _ _ _ (omega arith) (rw (c.from-i.ensures, c.from.ensures) at (c.from-in-0-to-4.ensures ∙ c.byte_at.ensures))
 
 -- a page of the links
-pub returns-then-field-lt8 : goal.returns-then-field-lt8
-returns-then-field-lt8 c =
-    link_cell _ _ _ _ (omega arith) (omega arith) (rw c.wide-i.ensures at (c.word8-then-field-lt8.ensures ∙ c.link_at.ensures))
+pub returns-in-5-to-7 : goal.returns-in-5-to-7
+returns-in-5-to-7 c =
+    link_cell _ _ _ _ (omega arith) (omega arith) (rw (c.from-i.ensures, c.from-in-5-to-7.ensures) at (c.from-in-5-to-7-2.ensures ∙ c.link_at.ensures))
 
 -- a page of words
-pub returns-then-field-lt11 : goal.returns-then-field-lt11
-returns-then-field-lt11 c =
-    word_cell _ _ _ _ (omega arith) (omega arith) (rw c.wide-i.ensures at c.word_at.ensures)
+pub returns-in-8-to-10 : goal.returns-in-8-to-10
+returns-in-8-to-10 c =
+    word_cell _ _ _ _ (omega arith) (omega arith) (rw (c.from-i.ensures, c.from-in-8-to-10.ensures) at c.word_at.ensures)
 
 -- the numbers of the whole bench
-pub returns-then-field-lt12 : goal.returns-then-field-lt12
-returns-then-field-lt12 c =
-    number_cell _ _ _ _ (omega arith) (omega arith) (rw c.wide-i.ensures at c.number_at.ensures)
+pub returns-in-11 : goal.returns-in-11
+returns-in-11 c = number_cell _ _ _ _ (omega arith) (omega arith) (rw c.from-i.ensures at c.number_at.ensures)
 
 -- no such field
-pub returns : goal.returns
-returns c = no_cell _ _ _ (omega arith)
+pub returns-in_default : goal.returns-in_default
+returns-in_default c = no_cell _ _ _ (omega arith)

@@ -28,20 +28,20 @@ returns-then-piece-gt-PIECE c =
 -- 23
 pub returns-then-replies-count : goal.returns-then-replies-count
 returns-then-replies-count c =
-    let used = c.used.ensures _ in
+    let used = c.from-used.ensures ∙ c.used.ensures _ in
     let number = room_number _ _ _ (passed (soundness (goal.at.returns-then-replies-count c).After-sound_by) c.if-not-sound_by.false-raw) used c.if-piece-gt-PIECE.false c.if-replies-count.true in
     record { number = sym number; untouched = λ n. (refl, refl, refl); is = λ a b. fed_refused _ _ 23 refl number }
 
 pub take_piece-requires : goal.take_piece-requires
 take_piece-requires c =
-    let used = c.used.ensures _ in
+    let used = c.from-used.ensures ∙ c.used.ensures _ in
     let few = few_carried ((state_in c.args.bytes.now c.args.words.now)) (passed (soundness (goal.at.take_piece-requires c).After-sound_by) c.if-not-sound_by.false-raw) in
     record { few = rw used few; short = c.if-piece-gt-PIECE.false; room = c.if-replies-count.false }
 
 -- taken
 pub returns : goal.returns
 returns c =
-    let used = c.used.ensures _ in
+    let used = c.from-used.ensures ∙ c.used.ensures _ in
     let test = passed (soundness (goal.at.returns c).After-sound_by) c.if-not-sound_by.false-raw in
     let number = taken_number _ _ _ test used c.if-piece-gt-PIECE.false c.if-replies-count.false in
     record {

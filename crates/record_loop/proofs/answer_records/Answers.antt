@@ -1,6 +1,5 @@
 -- The records of a source one after another: after k of them the rest of the source leads where all of it leads. Assumes nothing.
 use mathlib.Core.Path.{refl}
-use Prim.Native.Nat.{◌-◌}
 use native.Mathlib.Omega.{arith}
 use Rattle.record_loop.proofs.Looping.{turning_start, whole_record, reply_fits, turning_more, turning_end}
 use Rattle.record_loop.proofs.answer_records.Goals as goal
@@ -47,6 +46,3 @@ returns c =
       is = λ r. record { is = turning_end c.loop-k.invariant c.loop-k-test.false };
       untouched = λ n. absurd (n (record { few = omega arith; short = short; room = omega arith }));
     }
-
-pub loop-k-smaller : goal.loop-k-smaller
-loop-k-smaller c = omega arith

@@ -1,5 +1,4 @@
 -- The records of a source one after another: after k of them the rest of the source leads where all of it leads. Assumes nothing.
-use Prim.Native.Nat.{◌-◌}
 use Rattle.memory.specs.Layout.{state_in}
 use Rattle.record_loop.specs.Runs.{Turning}
 use Rattle.record_loop.proofs.answer_records.Given as goal
@@ -7,6 +6,3 @@ use Rattle.record_loop.proofs.answer_records.Given as goal
 abbrev pub invariant-loop-k : goal.invariant-loop-k
 invariant-loop-k l =
     Turning l.first l.source l.initial.replies l.count l.k (state_in l.initial.bytes l.initial.words) (state_in l.bytes l.words) l.replies
-
-abbrev pub decreases-loop-k : goal.decreases-loop-k
-decreases-loop-k l = l.count - l.k

@@ -1,20 +1,16 @@
--- `record_loop::write_reply` meets its contract. Assumes nothing.
+-- `record_loop::write_reply` meets its contract: the four bytes are copied into their part of the buffer. Assumes nothing.
+use mathlib.Core.Path.{◌≡◌}
+use Prim.Native.Nat.{◌+◌, ◌-◌, ◌/◌, ◌%◌, ◌<◌}
 use native.Mathlib.Omega.{arith}
-use lib.ListN.{length-set}
-use Rattle.record_loop.proofs.Joining.{over_four}
+use lib.Seq.{drop-drop}
+use borrow.Author.Rules.{rules}
+use Rattle.record_loop.specs.Runs.{over_at}
 use Rattle.record_loop.proofs.write_reply.Goals as goal
 
-pub bounds-replies-i-2 : goal.bounds-replies-i-2
-bounds-replies-i-2 c = simp length-set (omega arith)
-
-pub bounds-replies-i-3 : goal.bounds-replies-i-3
-bounds-replies-i-3 c = simp length-set (omega arith)
-
-pub bounds-replies-i-4 : goal.bounds-replies-i-4
-bounds-replies-i-4 c = simp length-set (omega arith)
-
-pub shape_of-replies : goal.shape_of-replies
-shape_of-replies c = simp length-set
-
 pub returns : goal.returns
-returns c = over_four c.args.replies.now c.args.i _ _ _ _ c.requires
+unfolding over_at
+returns c =
+    let four : c.args.i + 4 - c.args.i ≡ 4 = omega arith in
+    let low : c.args.reply.code < 65536 = search rules in
+    let high : c.args.reply.code / 256 % 256 ≡ c.args.reply.code / 256 = omega arith in
+    rw (four, c.copy_from_slice.ensures.after, c.to_le_bytes.ensures, high, drop-drop 4 c.args.i c.args.replies.now)

@@ -1,5 +1,5 @@
 -- Each exit is one test of the definition; the last is a law over states (Downs.antt). Assumes nothing.
-use Rattle.model.specs.Logic.{◌or◌, when◌then◌else◌}
+use Rattle.model.specs.Logic.{when◌then◌else◌}
 use mathlib.Core.Path.{refl, sym, ◌∙◌, ap}
 use Rattle.memory.specs.Ready.{fixed}
 use Rattle.counts.proofs.Turning.{turned_on}

@@ -11,7 +11,7 @@ returns-in-0 c = record { is = λ k i. c.none_open.ensures.is _ ∙ kind_none _ 
 
 -- suspend
 pub returns-in-1 : goal.returns-in-1
-returns-in-1 c = record { is = λ k i. c.suspend_open.ensures ∙ kind_suspend _ (sym (c.callback.ensures _) ∙ c.in-1.is) }
+returns-in-1 c = record { is = λ k i. rw (c.asked.ensures c.args.words.now) at c.asked_open.ensures ∙ kind_suspend _ (sym (c.callback.ensures _) ∙ c.in-1.is) }
 
 -- resume
 pub returns-in-2 : goal.returns-in-2
@@ -19,7 +19,7 @@ returns-in-2 c = record { is = λ k i. c.resume_open.ensures.is k i ∙ kind_res
 
 -- idle
 pub returns-in-3 : goal.returns-in-3
-returns-in-3 c = record { is = λ k i. c.idle_open.ensures ∙ kind_idle _ (sym (c.callback.ensures _) ∙ c.in-3.is) }
+returns-in-3 c = record { is = λ k i. c.asked_open-in-3.ensures ∙ kind_idle _ (sym (c.callback.ensures _) ∙ c.in-3.is) }
 
 -- a number that is no kind
 pub returns-in_default : goal.returns-in_default

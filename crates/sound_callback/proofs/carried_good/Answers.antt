@@ -1,6 +1,5 @@
 -- The invariant: `good` is the test of the bytes passed. Assumes nothing.
 use mathlib.Core.Path.{refl}
-use Prim.Native.Nat.{◌-◌}
 use native.Mathlib.Omega.{arith}
 use Rattle.model.specs.Logic.{all}
 use Rattle.model.specs.SoundTest.{carried_test}
@@ -12,27 +11,18 @@ use Rattle.sound_callback.proofs.carried_good.Goals as goal
 -- no byte is passed
 pub loop-i-init : goal.loop-i-init
 unfolding all
-loop-i-init c = (omega arith, λ words. refl)
+loop-i-init c = λ words. refl
 
 -- one byte more
 pub loop-i-preserved : goal.loop-i-preserved
-loop-i-preserved c =
-    (omega arith, λ words. all_next _ _ (c.spare_good.ensures.is words) (c.loop-i.invariant.1 words) c.both-good.ensures)
+loop-i-preserved c = λ words. all_next _ _ (c.spare_good-good.ensures.is words) (c.loop-i.invariant words) refl
 
 -- all three are passed
 pub returns : goal.returns
 unfolding carried_test spare_test
 returns c =
-    let q = c.loop-i in
-    let bytes = c.args.bytes.now in
     record {
       is =
           λ words.
-          rw (c.both.ensures, c.used.ensures words, all_done (spare_test (state_in bytes words).carry) 3 q.i q.invariant.0 c.loop-i-test.false (q.invariant.1 words));
+          rw (c.used.ensures words, all_done (spare_test (state_in c.args.bytes.now words).carry) 3 c.loop-i.i (omega arith) (omega arith) (c.loop-i.invariant words));
     }
-
-pub overflow_add-i : goal.overflow_add-i
-overflow_add-i c = omega arith
-
-pub loop-i-smaller : goal.loop-i-smaller
-loop-i-smaller c = omega arith

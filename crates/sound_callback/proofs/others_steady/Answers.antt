@@ -1,38 +1,21 @@
 -- The invariant: `good` is the test of the devices passed. Assumes nothing.
 use mathlib.Core.Path.{refl}
-use Prim.Native.Nat.{◌-◌}
 use native.Mathlib.Omega.{arith}
 use Rattle.model.specs.Logic.{all}
 use Rattle.model.proofs.Loops.{all_next, all_done}
-use Rattle.model.specs.SoundTest.{others_steady}
-use Rattle.sound_callback.specs.Parts.{other_steady}
+use Rattle.sound_callback.specs.Parts.{steady_but}
 use Rattle.sound_callback.proofs.others_steady.Goals as goal
 
 -- no device is passed
 pub loop-q-init : goal.loop-q-init
 unfolding all
-loop-q-init c = (omega arith, λ words. refl)
+loop-q-init c = λ words. refl
 
 -- one device more
 pub loop-q-preserved : goal.loop-q-preserved
-loop-q-preserved c =
-    (omega arith, λ words. all_next _ _ (c.other_steady.ensures.is words) (c.loop-q.invariant.1 words) c.both-good.ensures)
+loop-q-preserved c = λ words. all_next _ _ refl (c.loop-q.invariant words) (rw (c.eq.ensures, c.steady.ensures.is words))
 
 -- all n are passed
 pub returns : goal.returns
-unfolding others_steady other_steady
-returns c =
-    let q = c.loop-q in
-    let t = c.loop-q-test.false in
-    record {
-      is =
-          λ words.
-          let e = c.devices-n.ensures words in
-          all_done _ _ _ (let l = q.invariant.0 in omega arith) (omega arith) (q.invariant.1 words);
-    }
-
-pub overflow_add-q : goal.overflow_add-q
-overflow_add-q c = omega arith
-
-pub loop-q-smaller : goal.loop-q-smaller
-loop-q-smaller c = omega arith
+unfolding steady_but
+returns c = record { is = λ words. let e = c.devices-n.ensures words in all_done _ _ _ (omega arith) (omega arith) (c.loop-q.invariant words) }

@@ -57,5 +57,5 @@ returns c =
           let low = c.reached-found.ensures.low.is w h m ∙ ap (lowest ((state_in c.args.bytes.now c.args.words.now))) (c.target-t.ensures w) in
           resume_last ((state_in c.args.bytes.now c.args.words.now)) _ k l (sym low ∙ c.if-found-p.false ∙ c.asked-p.ensures w) (rw (c.status.ensures w, c.asked-p.ensures w) at c.if-status-ne-RESUMING.false)
           (rw (c.asked-p.ensures w) at (c.others_steady.ensures.is w)) (rw (c.target-t.ensures w) at c.bars.ensures)
-          (rw (c.target-t.ensures w) at (c.reached-found.ensures.barred h m)) c.both-clear.ensures c.both.ensures;
+          (rw (c.target-t.ensures w) at (c.reached-found.ensures.barred h m));
     }

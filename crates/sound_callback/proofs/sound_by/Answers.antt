@@ -21,6 +21,6 @@ returns c =
       is =
           λ i.
           let first = i.is (kept_ordered _ _ e).links in
-          and_go e (rw (c.carried_good.ensures.is words, c.callback_good.ensures.is e first) at c.both.ensures);
+          and_go e (rw (c.carried_good.ensures.is words, c.callback_good.ensures.is e first));
       columns = λ t. e;
     }

@@ -6,9 +6,9 @@ use Rattle.sound_callback.specs.Parts.{spare_test}
 use Rattle.sound_callback.proofs.spare_good.Goals as goal
 
 -- byte i is used
-pub returns-then-i-row : goal.returns-then-i-row
+pub returns-then-i-from : goal.returns-then-i-from
 unfolding spare_test ◌implies◌
-returns-then-i-row c = record { is = λ words. let e = c.row.ensures.0 ∙ c.used.ensures words in rw (lt-leb _ _ (rw e at c.if-i-row.true)) }
+returns-then-i-from c = record { is = λ words. let e = c.from.ensures ∙ c.used.ensures words in rw (lt-leb _ _ (rw e at c.if-i-from.true)) }
 
 -- byte i is not used
 pub returns : goal.returns
@@ -17,6 +17,6 @@ returns c =
     record {
       is =
           λ words.
-          let e = c.row.ensures.0 ∙ c.used.ensures words in
-          rw (le-leb _ _ (rw e at c.if-i-row.false), ← c.carried.ensures words);
+          let e = c.from.ensures ∙ c.used.ensures words in
+          rw (le-leb _ _ (rw e at c.if-i-from.false), ← c.carried.ensures words);
     }

@@ -4,4 +4,4 @@ use Rattle.sound_callback.proofs.steady.Goals as goal
 
 pub returns : goal.returns
 unfolding steady_test
-returns c = record { is = λ words. rw (c.both.ensures, c.status-v.ensures words) }
+returns c = record { is = λ words. rw (c.status-v.ensures words) }

@@ -13,7 +13,7 @@ returns c =
     record {
       is =
           λ en em.
-          let n = c.row-rows.ensures.0 ∙ sym en in
+          let n = c.from-rows.ensures ∙ sym en in
           devices_parts _ _
           (column_of ROWS 3 (status_page _ _) n c.byte_column-status.ensures)
           (column_of ROWS 32767 (holds_page _ _) n c.word_column-holds.ensures)
@@ -22,8 +22,7 @@ returns c =
           (same_of (children_page _ _) (c.recount_children-below.ensures.is _ en) c.same_bytes-children.ensures)
           (same_of (linked_page _ _) (c.recount_linked-links.ensures.is _ em) c.same_words-linked.ensures)
           (all_of _ (sym en) (c.parents_supply.ensures.is _))
-          (all_of _ (sym em) (c.links_supply.ensures.is _))
-          c.both.ensures c.both-2.ensures c.both-columns.ensures c.both-counts.ensures c.both-supply.ensures c.both-3.ensures c.both-4.ensures;
+          (all_of _ (sym em) (c.links_supply.ensures.is _));
     }
 
 pub recount_linked-links-requires : goal.recount_linked-links-requires

@@ -1,31 +1,8 @@
--- `sound_columns::links_ascend` meets its contract. The invariant: `good` is the test of those passed. Assumes nothing.
-use Prim.Native.Nat.{◌-◌}
-use native.Mathlib.Omega.{arith}
+-- `sound_columns::links_ascend` meets its contract. Assumes nothing.
+use borrow.Author.Rules.{rules}
 use Rattle.model.specs.Limits.{LINKS}
-use Rattle.sound_rules.proofs.Saying.{says_none, says_next, says_done}
 use Rattle.sound_columns.proofs.links_ascend.Goals as goal
 
-pub loop-i-init : goal.loop-i-init
-loop-i-init c = (omega arith, says_none _)
-
-pub loop-i-preserved : goal.loop-i-preserved
-loop-i-preserved c = (omega arith, says_next _ _ c.link_ascends.ensures c.loop-i.invariant.1 c.both-good.ensures)
-
 pub returns : goal.returns
-returns c = says_done _ _ _ c.loop-i.invariant.0 (omega arith) c.loop-i.invariant.1
-
-pub overflow_add-i : goal.overflow_add-i
 unfolding LINKS
-overflow_add-i c = omega arith
-
-pub link_ascends-requires : goal.link_ascends-requires
-unfolding LINKS
-link_ascends-requires c = omega arith
-
-pub overflow_add-i-in-loop-i : goal.overflow_add-i-in-loop-i
-unfolding LINKS
-overflow_add-i-in-loop-i c = omega arith
-
-pub loop-i-smaller : goal.loop-i-smaller
-unfolding LINKS
-loop-i-smaller c = omega arith
+returns c = record { is = λ words. rw (← c.saturating_sub.ensures) (c.every.ensures _ (λ k r l e. search rules)) }

@@ -1,6 +1,6 @@
 -- `sound_columns::recount_linked` meets its contract. The invariant: the tallies of the links passed. Assumes nothing.
 use mathlib.Core.List.{List}
-use Prim.Native.Nat.{ℕ, ◌-◌, ◌≤◌}
+use Prim.Native.Nat.{ℕ}
 use lib.ListN.{get_or}
 use Rattle.model.specs.Limits.{ROWS}
 use Rattle.model.specs.State.{State, is_live}
@@ -13,7 +13,4 @@ abbrev pub Passed : State → ℕ → List ℕ → Type 0
 Passed s k counts = Tallied (is_live s.wiring s.devices.status) (λ j. get_or s.wiring.supplier j 0) ROWS k counts
 
 abbrev pub invariant-loop-k : goal.invariant-loop-k
-invariant-loop-k l = (l.k ≤ l.m) × ((words : List ℕ) → Passed (state_in l.bytes words) l.k l.counts)
-
-abbrev pub decreases-loop-k : goal.decreases-loop-k
-decreases-loop-k l = l.m - l.k
+invariant-loop-k l = (words : List ℕ) → Passed (state_in l.bytes words) l.k l.counts

@@ -1,5 +1,5 @@
 -- `sound_columns::well_kept` meets its contract: the counts in their ranges, then the wiring and the devices' state. Assumes nothing.
-use mathlib.Core.Path.{sym, ◌∙◌}
+use mathlib.Core.Path.{sym}
 use native.Mathlib.Omega.{arith}
 use Rattle.model.specs.Limits.{DEVICES, LINKS}
 use Rattle.sound_columns.proofs.Whole.{kept_none, kept_many, kept_linked, kept_all}
@@ -21,7 +21,7 @@ pub returns-then-m-gt-LINKS : goal.returns-then-m-gt-LINKS
 unfolding DEVICES LINKS
 returns-then-m-gt-LINKS c =
     let n = c.devices-n.ensures _ in
-    let m = c.wide32-m.ensures ∙ c.links.ensures _ in
+    let m = c.links-m.ensures _ in
     kept_linked _ _ (rw n at c.if-n-lt1.false) (rw n at c.if-n-gt-DEVICES.false) (rw m at c.if-m-gt-LINKS.true)
 
 -- the two parts
@@ -29,9 +29,9 @@ pub returns : goal.returns
 unfolding DEVICES LINKS
 returns c =
     let n = c.devices-n.ensures _ in
-    let m = c.wide32-m.ensures ∙ c.links.ensures _ in
+    let m = c.links-m.ensures _ in
     kept_all _ _ (rw n at c.if-n-lt1.false) (rw n at c.if-n-gt-DEVICES.false) (rw m at c.if-m-gt-LINKS.false) ((c.wiring_good-wiring.ensures _).is (sym n) (sym m))
-    (c.devices_good-devices.ensures.is (sym n) (sym m)) c.both.ensures
+    (c.devices_good-devices.ensures.is (sym n) (sym m))
 
 pub wiring_good-wiring-requires : goal.wiring_good-wiring-requires
 unfolding DEVICES LINKS

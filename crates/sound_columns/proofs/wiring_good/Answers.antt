@@ -17,7 +17,7 @@ returns c =
       is =
           λ en em.
           let s = state_in c.args.bytes.now words in
-          let n = c.row-rows.ensures.0 ∙ sym en in
+          let n = c.from-rows.ensures ∙ sym en in
           let m = sym em in
           wiring_parts s
           (column_of ROWS 255 (parent_page _ words) n c.byte_column-parent.ensures)
@@ -27,8 +27,7 @@ returns c =
           (column_of LINKS 3 (flags_page _ words) m c.link_column-flags.ensures)
           (all_of _ (sym en) (c.parents_good.ensures.is words))
           (fit_of s (sym en) m (c.links_fit-fit.ensures.is words))
-          (all_of _ (ap (λ (x : ℕ). x - 1) m) (c.links_ascend-ascend.ensures.is words))
-          c.both.ensures c.both-2.ensures c.both-3.ensures c.both-columns.ensures c.both-4.ensures c.both-5.ensures c.both-6.ensures;
+          (all_of _ (ap (λ (x : ℕ). x - 1) m) (c.links_ascend-ascend.ensures.is words));
     }
 
 pub links_ascend-ascend-requires : goal.links_ascend-ascend-requires
