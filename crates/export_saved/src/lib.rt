@@ -3,7 +3,6 @@
 
 ghost use Rattle.export_saved.specs.Saves.{SaveIs, RestoreIs};
 
-use basics::word8;
 use keeper_bench::Bench;
 use memory::{BYTES, WORDS};
 use saved_answer::{restore_number, save_number};
@@ -24,7 +23,7 @@ pub extern "C" fn tests_save<'a>(
         },
         out,
     );
-    word8(save_number(answer))
+    u32::from(save_number(answer))
 }
 
 // Restore a bench from its form: the refusal's number, 0 where it is taken. The bench that is left takes the place of the old.
@@ -43,5 +42,5 @@ pub extern "C" fn tests_restore(
     *bytes = bytes_left;
     let words_left = bench.words;
     *words = words_left;
-    word8(restore_number(answer))
+    u32::from(restore_number(answer))
 }

@@ -20,9 +20,9 @@ use Rattle.model.proofs.Running.{run_sound}
 use Rattle.model.proofs.Pieces.{piece_taken, piece_refused}
 use Rattle.model.proofs.Day.{day_loads}
 use Rattle.table.specs.Answers.{answer_of}
-use Rattle.table.specs.declared.Answer.TheVariants as table-answer
-use Rattle.record_answer.specs.declared.Answer.{Answer}
-use Rattle.record_answer.specs.declared.Answer.TheVariants.{Long, Room, Taken}
+use Rattle.std.specs.Prelude.{Result, Ok, Err}
+use Rattle.record_answer.specs.declared.Refusal.{Refusal}
+use Rattle.record_answer.specs.declared.Refusal.TheVariants.{Long, Room}
 use Rattle.record_answer.specs.Answers.{number_of, replies_of}
 use Rattle.keeper_bench.specs.declared.Bench.{Bench}
 use Rattle.keeper_bench.specs.Translate.{state_of, bench_of}
@@ -40,7 +40,7 @@ pub record Given (b : Bench) (p : Piece) : Type 0 where
   pub sound : Sound (state_of call.result.bench)
 
 -- by the answer and the state that the model gives
-given : (b : Bench) (p : Piece) (a : Answer) (t : State) (after : List ℕ) → Sound t
+given : (b : Bench) (p : Piece) (a : Result ℕ Refusal) (t : State) (after : List ℕ) → Sound t
     → feed_of (state_of b) p ≡ record { number = number_of a; replies = replies_of a; state = t; buffer = after } → Given b p
 given b p a t after h e =
     let z = sound_back_and_there h in
@@ -62,9 +62,9 @@ answers c p =
 pub one : (b : Bench) (p : Piece) → Sound (state_of b) → Given b p
 one b p h =
     let s = state_of b in
-    ⊎_elim (λ e. given b p Long s p.buffer h (rw e at (piece_refused s h p (rw e))))
-    (⊎_elim (λ e. given b p Room s p.buffer h (rw e at (piece_refused s h p (rw e))))
-    (λ e. given b p (Taken (length (run s p.bytes).log)) (run s p.bytes).state _ (run_sound s p.bytes h) (piece_taken s h p (rw e))))
+    ⊎_elim (λ e. given b p (Err Long) s p.buffer h (rw e at (piece_refused s h p (rw e))))
+    (⊎_elim (λ e. given b p (Err Room) s p.buffer h (rw e at (piece_refused s h p (rw e))))
+    (λ e. given b p (Ok (length (run s p.bytes).log)) (run s p.bytes).state _ (run_sound s p.bytes h) (piece_taken s h p (rw e))))
     (answers s.carry.used p)
 
 -- ---- calls as the check of a caller reads them: where a reference points, its ghost name and the lifetimes are any
@@ -132,7 +132,7 @@ calls_exist table e ps =
     let z = sound_back_and_there h in
     let b = bench_of (load_of table).state in
     record {
-      load = load_read (record { table = table; result = record { answer = table-answer.Taken; bench = b } }) (rw z (load_met table e));
+      load = load_read (record { table = table; result = record { answer = Ok tt; bench = b } }) (rw z (load_met table e));
       given = refl;
       taken = refl;
       fed = chain b ps (rw z h);

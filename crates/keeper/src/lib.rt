@@ -12,13 +12,12 @@ ghost use Rattle.keeper.specs.Translate.{loaded_of, fed_of};
 
 use keeper_bench::Bench;
 use memory::{BYTES, WORDS};
-use table::Answer;
 use table_entries::{byte_at, device_byte, link_byte};
 
 // What loading a table gives: the answer, and the bench, empty where the table is refused.
 #[derive(Clone, Copy)]
 pub struct Loaded {
-    pub answer: Answer,
+    pub answer: Result<(), table::Refusal>,
     pub bench: Bench,
 }
 
@@ -37,12 +36,10 @@ fn enter_devices(bytes: &mut [u8; BYTES], t: &[u8])
     ensures { BytesBecome (with_device_entries t.now (devices_in t.now)) bytes.old bytes.new }
 {
     let n = byte_at(t, 5);
-    let mut p: u8 = 0;
-    while p < n {
+    for p in 0..n {
         memory_stores::set_parent(bytes, p, device_byte(t, 0, p));
         memory_stores::set_ignore(bytes, p, device_byte(t, 1, p));
         memory_stores::set_depth(bytes, p, 1);
-        p += 1;
     }
 }
 
@@ -50,13 +47,12 @@ fn enter_devices(bytes: &mut [u8; BYTES], t: &[u8])
 fn enter_links(bytes: &mut [u8; BYTES], t: &[u8])
     ensures { BytesBecome (with_link_entries t.now (links_in t.now)) bytes.old bytes.new }
 {
-    let m = byte_at(t, 6) as u16;
-    let mut i: u16 = 0;
-    while i < m {
-        memory_links::set_consumer(bytes, i as usize, link_byte(t, 0, i));
-        memory_links::set_supplier(bytes, i as usize, link_byte(t, 1, i));
-        memory_links::set_flags(bytes, i as usize, link_byte(t, 2, i));
-        i += 1;
+    let m = u16::from(byte_at(t, 6));
+    for i in 0..m {
+        let row = usize::from(i);
+        memory_links::set_consumer(bytes, row, link_byte(t, 0, i));
+        memory_links::set_supplier(bytes, row, link_byte(t, 1, i));
+        memory_links::set_flags(bytes, row, link_byte(t, 2, i));
     }
 }
 
@@ -68,13 +64,10 @@ fn at_rest(t: &[u8]) -> Bench
     let mut bytes = fresh.bytes;
     let mut words = fresh.words;
     memory::set_devices(&mut bytes, byte_at(t, 5));
-    memory::set_links(&mut words, byte_at(t, 6) as u32);
+    memory::set_links(&mut words, u32::from(byte_at(t, 6)));
     enter_devices(&mut bytes, t);
     enter_links(&mut bytes, t);
-    Bench {
-        bytes: bytes,
-        words: words,
-    }
+    Bench { bytes, words }
 }
 
 // Load a table. Any bytes get an answer; a refused table leaves the empty bench.
@@ -82,22 +75,17 @@ pub fn load(t: &[u8]) -> Loaded
     ensures { loaded_of result ≡ load_of t.now }
 {
     let answer = table::judge(t);
-    let Answer::Taken = answer else {
-        return Loaded {
-            answer: answer,
-            bench: empty(),
-        };
+    let bench = match answer {
+        Ok(()) => at_rest(t),
+        Err(_) => empty(),
     };
-    Loaded {
-        answer: answer,
-        bench: at_rest(t),
-    }
+    Loaded { answer, bench }
 }
 
 // What a piece of log gives: the answer, and the bench handed back, as it was where the piece is refused.
 #[derive(Clone, Copy)]
 pub struct Fed {
-    pub answer: record_answer::Answer,
+    pub answer: Result<u16, record_answer::Refusal>,
     pub bench: Bench,
 }
 
@@ -111,8 +99,5 @@ pub fn feed(mut bench: Bench, piece: &[u8], replies: &mut [u8]) -> Fed
     let answer = record_feed::feed(&mut bytes, &mut words, piece, replies);
     bench.bytes = bytes;
     bench.words = words;
-    Fed {
-        answer: answer,
-        bench: bench,
-    }
+    Fed { answer, bench }
 }

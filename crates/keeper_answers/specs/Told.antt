@@ -28,8 +28,14 @@ abbrev pub told_by : Result ⊤ Refusal → ℕ → Told
 told_by (Ok u) v = record { number = 0; value = v }
 told_by (Err r) v = record { number = refusal_of r; value = 0 }
 
--- on a sound bench with known devices a right value is told; else the refusal
+-- a check passes only on a sound bench with known devices
+abbrev pub Passed : State → Bool → Result ⊤ Refusal → Type 0
+Passed s known (Ok u) = Sound s × (known ≡ true)
+Passed s known (Err r) = ⊤
+
+-- on such a bench a right value is told; else the refusal
 pub record Checked (s : State) (known : Bool) (c : Result ⊤ Refusal) : Type 0 where
+  pub passes : Passed s known c
   pub tells : (v w : ℕ) → (Sound s → known ≡ true → v ≡ w) → told_by c v ≡ told s known w
 
 -- an answer: a refusal's number alone, or what is told

@@ -17,8 +17,7 @@ use Rattle.keeper_bench.specs.Translate.{state_of, bench_of}
 use Rattle.keeper_bench.proofs.Translations.{sound_back_and_there}
 use Rattle.keeper.specs.Calls.{pieces}
 use Rattle.keeper.proofs.Witness.{lent, lent_mut, one, feed_reading}
-use Rattle.saved_answer.specs.declared.Saving.TheVariants.{Written}
-use Rattle.saved_answer.specs.declared.Restoring.TheVariants as restoring
+use Rattle.std.specs.Prelude.{Ok}
 use Rattle.saved_form.specs.Form.{FORM, form}
 use Rattle.saved_form.specs.Saving.{save_number, save_of}
 use Rattle.saved_form.specs.Restoring.{Restored}
@@ -28,7 +27,7 @@ use Rattle.saved.proofs.Calls.{SaveRead, RestoreRead, StartRead, restore_read, C
 
 -- ---- a call of `restore` on the form of a sound state
 abbrev restore_call_lem : State → RestoreCall
-restore_call_lem s = record { bytes = form s; result = record { answer = restoring.Taken; bench = bench_of s } }
+restore_call_lem s = record { bytes = form s; result = record { answer = Ok tt; bench = bench_of s } }
 
 restore_met : (s : State) → Sound s → RestoreMet (restore_call_lem s)
 restore_met s h = rw (sound_back_and_there h) (sym (restores h))
@@ -61,7 +60,7 @@ abbrev room : List ℕ
 room = replicate FORM 0
 
 abbrev save_call_lem : Bench → State → SaveCall
-save_call_lem b s = record { bench = b; buffer = room; result = Written; after = over (form s) room }
+save_call_lem b s = record { bench = b; buffer = room; result = Ok tt; after = over (form s) room }
 
 save_met : {s : State} → Sound s → (b : Bench) → state_of b ≡ s → SaveMet (save_call_lem b s)
 save_met {s} h b e = let l = length-replicate {A = ℕ} FORM 0 in rw e (sym (save_done h room (omega arith)))

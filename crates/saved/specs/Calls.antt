@@ -1,13 +1,13 @@
 -- Demand 3 over a list of calls that begins with a `load` or a `restore`, with battery changes in between: "After a restore, demand 3's list and
 -- the plain keeper start from the saved bench". Assumes nothing.
-use Rattle.std.specs.Prelude.{◌≡◌, List, [], ◌∷◌, map, ℕ, take}
+use Rattle.std.specs.Prelude.{◌≡◌, List, [], ◌∷◌, map, ℕ, ⊤, Result, take}
 use Rattle.model.specs.State.{State, load_of}
 use Rattle.model.specs.Demand3.{joined, taken_bytes}
 use Rattle.table.specs.Answers.{answer_of}
 use Rattle.keeper_bench.specs.declared.Bench.{Bench}
 use Rattle.keeper_bench.specs.Translate.{state_of}
 use Rattle.keeper.specs.Calls.{LoadCall, FeedCall, gave, pieces, LoadMet, FeedMet, Agreed}
-use Rattle.saved_answer.specs.declared.Saving.{Saving}
+use Rattle.saved_answer.specs.declared.SaveRefusal.{SaveRefusal}
 use Rattle.saved_answer.specs.Answers.{saving_of, restoring_of}
 use Rattle.saved_form.specs.Form.{FORM}
 use Rattle.saved_form.specs.Saving.{save_of}
@@ -19,7 +19,7 @@ use Rattle.saved.specs.Translate.{saved_of, restored_of}
 pub record SaveCall : Type 0 where
   pub bench : Bench
   pub buffer : List ℕ
-  pub result : Saving
+  pub result : Result ⊤ SaveRefusal
   pub after : List ℕ
 
 pub record RestoreCall : Type 0 where

@@ -2,49 +2,69 @@
 #![tactic(auto)]
 
 ghost use Rattle.std.specs.Prelude.{◌≡◌};
-ghost use Rattle.saved_answer.specs.Answers.{saving_of, restoring_of};
+ghost use Rattle.saved_answer.specs.Answers.{save_refusal, restore_refusal, saving_of, restoring_of};
 
-// The bench is not sound, the buffer is too short, or the form is written; in the order of the tests.
-#[derive(Clone, Copy)]
-pub enum Saving {
+// Why a bench is not saved: it is not sound, or the buffer is too short; in the order of the tests.
+#[derive(Clone, Copy, Debug, PartialEq, Eq)]
+pub enum SaveRefusal {
     Unsound,
     Room,
-    Written,
 }
 
-// Fewer than five bytes, another mark, a version that is not known, another length than the version's, no sound bench's form, or a bench;
-// in the order of the tests.
-#[derive(Clone, Copy)]
-pub enum Restoring {
+impl SaveRefusal {
+    // The number of the refusal.
+    pub fn number(self) -> u8
+        ensures { result ≡ save_refusal self }
+    {
+        match self {
+            SaveRefusal::Unsound => 21,
+            SaveRefusal::Room => 8,
+        }
+    }
+}
+
+// Why bytes are not restored: fewer than five bytes, another mark, a version that is not known, another length than the version's, or no sound
+// bench's form; in the order of the tests.
+#[derive(Clone, Copy, Debug, PartialEq, Eq)]
+pub enum RestoreRefusal {
     Short,
     Mark,
     Version,
     Length,
     Unsound,
-    Taken,
+}
+
+impl RestoreRefusal {
+    // The number of the refusal.
+    pub fn number(self) -> u8
+        ensures { result ≡ restore_refusal self }
+    {
+        match self {
+            RestoreRefusal::Short => 1,
+            RestoreRefusal::Mark => 2,
+            RestoreRefusal::Version => 3,
+            RestoreRefusal::Length => 5,
+            RestoreRefusal::Unsound => 21,
+        }
+    }
 }
 
 // The number of a saving, 0 where the form is written.
-pub fn save_number(answer: Saving) -> u8
+pub fn save_number(answer: Result<(), SaveRefusal>) -> u8
     ensures { result ≡ saving_of answer }
 {
     match answer {
-        Saving::Unsound => 21,
-        Saving::Room => 8,
-        Saving::Written => 0,
+        Ok(()) => 0,
+        Err(refusal) => refusal.number(),
     }
 }
 
 // The number of a restoring, 0 where the bytes are a bench's form.
-pub fn restore_number(answer: Restoring) -> u8
+pub fn restore_number(answer: Result<(), RestoreRefusal>) -> u8
     ensures { result ≡ restoring_of answer }
 {
     match answer {
-        Restoring::Short => 1,
-        Restoring::Mark => 2,
-        Restoring::Version => 3,
-        Restoring::Length => 5,
-        Restoring::Unsound => 21,
-        Restoring::Taken => 0,
+        Ok(()) => 0,
+        Err(refusal) => refusal.number(),
     }
 }

@@ -25,6 +25,11 @@ module _ (xs : List ℕ) (to n : ℕ) (room : to + n ≤ length xs) where
   laid_part cells ys many e =
       rw (e, replaced cells (take (to + n - to) (drop to xs)) (many ∙ sym part_long), again to n, drop-drop n to xs, many)
 
+-- a part copied whole, as the code lends it
+pub laid_put : (xs : List ℕ) (at n : ℕ) (cells ys : List ℕ) → length cells ≡ n → ys ≡ cells → take at xs ++ (ys ++ drop (at + n - at) (drop at xs)) ≡ laid xs at cells
+unfolding laid
+laid_put xs at n cells ys many e = rw (e, again at n, drop-drop n at xs, many)
+
 -- the length stays
 pub laid_long : (xs cells : List ℕ) (to n : ℕ) → length cells ≡ n → to + n ≤ length xs → length (laid xs to cells) ≡ length xs
 unfolding laid

@@ -8,7 +8,7 @@ use native.Mathlib.Omega.{arith}
 use lib.ListN.{length, get_or, take, drop, length-append, length-drop, take-append-drop}
 use lib.Seq.{drop-cons, drop-drop, take_at, drop_at, take_all, get_or-drop}
 use borrow.Author.Tests.{eqb-true}
-use Rattle.model.specs.Logic.{when◌then◌else◌, ◌and◌}
+use Rattle.model.specs.Logic.{when◌then◌else◌}
 use Rattle.model.specs.State.{State}
 use Rattle.model.specs.Sound.{Sound}
 use Rattle.model.specs.Feed.{over}

@@ -5,6 +5,8 @@ use Rattle.model.specs.Logic.{when◌then◌else◌, ◌and◌}
 use Rattle.model.specs.State.{State, empty_state}
 use Rattle.model.specs.SoundTest.{sound_test}
 use Rattle.memory.specs.Layout.{BYTES, WORDS, area, state_in}
+use Rattle.saved_form.specs.declared.Array.{Array}
+use Rattle.saved_form.specs.declared.Array.TheVariants.{Bytes, Words}
 use Rattle.saved_form.specs.declared.Span.{Span}
 use Rattle.saved_form.specs.Words.{words_from}
 use Rattle.saved_form.specs.Form.{HEADER}
@@ -13,9 +15,17 @@ use Rattle.saved_form.specs.Form.{HEADER}
 -- all bytes, then all words
 abbrev pub version1 : List Span
 version1 =
-    record { words = false; at = HEADER; cells = BYTES; to = 0 }
-    ∷ record { words = true; at = HEADER + BYTES; cells = WORDS; to = 0 }
+    record { array = Bytes; at = HEADER; cells = BYTES; to = 0 }
+    ∷ record { array = Words; at = HEADER + BYTES; cells = WORDS; to = 0 }
     ∷ []
+
+-- a span of words, or one of bytes
+abbrev pub are_words : Array → Bool
+are_words Bytes = false
+are_words Words = true
+
+abbrev pub in_words : Span → Bool
+in_words p = are_words p.array
 
 -- the spans of a version; a version that is not known has none
 unfoldable pub spans : ℕ → List Span
@@ -26,7 +36,7 @@ known v = eqb v 1
 
 -- how many bytes a span has in the form, and how long a form with these spans is
 unfoldable pub width : Span → ℕ
-width p = when p.words then 4 * p.cells else p.cells
+width p = when in_words p then 4 * p.cells else p.cells
 
 unfoldable pub length_by : List Span → ℕ
 length_by [] = HEADER
@@ -35,7 +45,7 @@ length_by (p ∷ ps) = width p + length_by ps
 -- ---- the memory that a form gives by its spans
 -- the cells of a span, as they stand in form f
 unfoldable pub cells_in : List ℕ → Span → List ℕ
-cells_in f p = when p.words then words_from (area p.at (width p) f) else area p.at (width p) f
+cells_in f p = when in_words p then words_from (area p.at (width p) f) else area p.at (width p) f
 
 -- an array with other cells from a place on
 unfoldable pub laid : List ℕ → ℕ → List ℕ → List ℕ
@@ -44,11 +54,11 @@ laid array to cells = take to array ++ (cells ++ drop (to + length cells) array)
 -- the bytes, and the words, with each span laid at its place
 unfoldable pub bytes_by : List ℕ → List Span → List ℕ → List ℕ
 bytes_by f [] bytes = bytes
-bytes_by f (p ∷ ps) bytes = bytes_by f ps (when p.words then bytes else laid bytes p.to (cells_in f p))
+bytes_by f (p ∷ ps) bytes = bytes_by f ps (when in_words p then bytes else laid bytes p.to (cells_in f p))
 
 unfoldable pub words_by : List ℕ → List Span → List ℕ → List ℕ
 words_by f [] words = words
-words_by f (p ∷ ps) words = words_by f ps (when p.words then laid words p.to (cells_in f p) else words)
+words_by f (p ∷ ps) words = words_by f ps (when in_words p then laid words p.to (cells_in f p) else words)
 
 -- what no span has is 0
 unfoldable pub state_by : List ℕ → List Span → State

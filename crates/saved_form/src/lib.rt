@@ -13,10 +13,17 @@ const WORDSAT: usize = HEADER + BYTES;
 // How long a saved state of the newest version is.
 pub const FORM: usize = WORDSAT + 4 * WORDS;
 
+// The two arrays of a memory.
+#[derive(Clone, Copy, Debug, PartialEq, Eq)]
+pub enum Array {
+    Bytes,
+    Words,
+}
+
 // A span of cells: of which of the two arrays, where in the form, how many, and where in the array.
 #[derive(Clone, Copy)]
 pub struct Span {
-    pub words: bool,
+    pub array: Array,
     pub at: usize,
     pub cells: usize,
     pub to: usize,
@@ -28,13 +35,13 @@ pub const SPANS: usize = 2;
 // Version 1: all bytes, then all words.
 pub const VERSION1: [Span; SPANS] = [
     Span {
-        words: false,
+        array: Array::Bytes,
         at: HEADER,
         cells: BYTES,
         to: 0,
     },
     Span {
-        words: true,
+        array: Array::Words,
         at: WORDSAT,
         cells: WORDS,
         to: 0,

@@ -2,22 +2,18 @@
 // not asked here.
 #![tactic(auto)]
 
-ghost use Rattle.std.specs.Prelude.{◌≡◌, ◌+◌, ◌*◌, ◌≤◌, length, replicate};
-ghost use Rattle.memory.specs.Layout.{BYTES, WORDS, area};
-ghost use Rattle.saved_form.specs.Words.{words_from};
+ghost use Rattle.std.specs.Prelude.{◌≡◌, ◌^◌, ◌<◌, ◌≤◌, length};
 ghost use Rattle.saved_form.specs.Form.{HEADER, FORM};
-ghost use Rattle.saved_form.specs.Restoring.{marked, version_in, laid};
+ghost use Rattle.saved_form.specs.Restoring.{marked, version_in, width};
 ghost use Rattle.saved_read.specs.Reads.{Fits, AllFit, Placed, Filled, CellsOf, ReadIs};
 
-use basics::word8;
 use memory::{BYTES, WORDS};
-use saved_answer::Restoring;
-use saved_form::{FORM, HEADER, SPANS, Span, VERSION1};
+use saved_answer::RestoreRefusal;
+use saved_form::{Array, FORM, HEADER, SPANS, Span, VERSION1};
 
-// What reading gives: refused, or taken; and the two arrays, zeros where the bytes are refused.
+// The two arrays of a memory.
 #[derive(Clone, Copy)]
 pub struct Cells {
-    pub answer: Restoring,
     pub bytes: [u8; BYTES],
     pub words: [u32; WORDS],
 }
@@ -27,45 +23,26 @@ fn is_marked(f: &[u8]) -> bool
     requires { HEADER ≤ length f.now }
     ensures { result ≡ marked f.now }
 {
-    if f[0] != 84 {
-        return false;
-    }
-    if f[1] != 87 {
-        return false;
-    }
-    f[2] == 83
+    f.starts_with(b"TWS")
 }
 
 // The version.
-fn version_in(f: &[u8]) -> u32
+fn version_in(f: &[u8]) -> u16
     requires { HEADER ≤ length f.now }
     ensures { result ≡ version_in f.now }
 {
-    word8(f[3]) + 256 * word8(f[4])
+    u16::from_le_bytes([f[3], f[4]])
 }
 
-// A span of bytes, laid at its place.
-fn lay_bytes(f: &[u8], span: Span, bytes: &mut [u8])
-    requires { (span.at + span.cells ≤ length f.now) × (span.to + span.cells ≤ length bytes.old) }
-    ensures { bytes.new ≡ laid bytes.old span.to (area span.at span.cells f.now) }
+// How many bytes a span has in a form.
+fn width(span: Span) -> usize
+    requires { width span < 2 ^ 64 }
+    ensures { result ≡ width span }
 {
-    let at = span.at;
-    let to = span.to;
-    let stop = at + span.cells;
-    let end = to + span.cells;
-    saved_copy::copy_bytes(&f[at..stop], &mut bytes[to..end]);
-}
-
-// A span of words.
-fn lay_words(f: &[u8], span: Span, words: &mut [u32])
-    requires { (span.at + 4 * span.cells ≤ length f.now) × (span.to + span.cells ≤ length words.old) }
-    ensures { words.new ≡ laid words.old span.to (words_from (area span.at (4 * span.cells) f.now)) }
-{
-    let at = span.at;
-    let to = span.to;
-    let stop = at + 4 * span.cells;
-    let end = to + span.cells;
-    saved_copy::read_words(&f[at..stop], &mut words[to..end]);
+    match span.array {
+        Array::Bytes => span.cells,
+        Array::Words => 4 * span.cells,
+    }
 }
 
 // One span of a form, laid at its place in the array that it belongs to.
@@ -73,11 +50,13 @@ fn place(f: &[u8], span: Span, bytes: &mut [u8], words: &mut [u32])
     requires { Fits f.now span bytes.old words.old }
     ensures { Placed f.now span bytes.old words.old bytes.new words.new }
 {
-    if span.words {
-        lay_words(f, span, words);
-        return;
+    let from = &f[span.at..span.at + width(span)];
+    match span.array {
+        Array::Bytes => bytes[span.to..span.to + span.cells].copy_from_slice(from),
+        Array::Words => {
+            saved_copy::read_words(from, &mut words[span.to..span.to + span.cells]);
+        }
     }
-    lay_bytes(f, span, bytes);
 }
 
 // All spans of a form, one after another.
@@ -85,22 +64,8 @@ fn fill(f: &[u8], spans: [Span; SPANS], bytes: &mut [u8], words: &mut [u32])
     requires { AllFit f.now spans bytes.old words.old }
     ensures { Filled f.now spans bytes.old words.old bytes.new words.new }
 {
-    let mut k: usize = 0;
-    while k < SPANS {
-        let span = spans[k];
+    for span in spans {
         place(f, span, bytes, words);
-        k += 1;
-    }
-}
-
-// Zeros, with an answer.
-fn refused(answer: Restoring) -> Cells
-    ensures { (result.answer ≡ answer) × (result.bytes ≡ replicate BYTES 0) × (result.words ≡ replicate WORDS 0) }
-{
-    Cells {
-        answer: answer,
-        bytes: [0u8; BYTES],
-        words: [0u32; WORDS],
     }
 }
 
@@ -109,32 +74,27 @@ fn cells_of(f: &[u8]) -> Cells
     requires { length f.now ≡ FORM }
     ensures { CellsOf f.now result }
 {
-    let fresh = refused(Restoring::Taken);
-    let mut bytes = fresh.bytes;
-    let mut words = fresh.words;
+    let mut bytes = [0; BYTES];
+    let mut words = [0; WORDS];
     fill(f, VERSION1, &mut bytes, &mut words);
-    Cells {
-        answer: Restoring::Taken,
-        bytes: bytes,
-        words: words,
-    }
+    Cells { bytes, words }
 }
 
 // Read a saved state: 1, 2, 3 and 5 are tested in this order.
-pub fn read(f: &[u8]) -> Cells
+pub fn read(f: &[u8]) -> Result<Cells, RestoreRefusal>
     ensures { ReadIs f.now result }
 {
     if f.len() < HEADER {
-        return refused(Restoring::Short);
+        return Err(RestoreRefusal::Short);
     }
     if !is_marked(f) {
-        return refused(Restoring::Mark);
+        return Err(RestoreRefusal::Mark);
     }
     if version_in(f) != 1 {
-        return refused(Restoring::Version);
+        return Err(RestoreRefusal::Version);
     }
     if f.len() != FORM {
-        return refused(Restoring::Length);
+        return Err(RestoreRefusal::Length);
     }
-    cells_of(f)
+    Ok(cells_of(f))
 }

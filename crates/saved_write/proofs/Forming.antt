@@ -1,6 +1,5 @@
 -- A form laid part after part. Assumes nothing.
 use mathlib.Core.Path.{◌≡◌, refl, sym, ◌∙◌, ap}
-use mathlib.Core.Bool.{true, false}
 use mathlib.Core.List.{List, ◌++◌, append_assoc}
 use Prim.Native.Nat.{ℕ, ◌+◌, ◌*◌, ◌-◌, ◌/◌, ◌<◌, ◌≤◌}
 use native.Mathlib.Omega.{arith}
@@ -16,16 +15,11 @@ use Rattle.saved_form.specs.Form.{HEADER, FORM, header, form}
 use Rattle.saved_form.specs.Restoring.{laid}
 use Rattle.saved_form.proofs.Words.{bytes_count}
 use Rattle.saved_copy.proofs.Parts.{part_long, laid_part}
+use Rattle.saved_answer.specs.declared.SaveRefusal.TheVariants.{Room}
+use Rattle.std.specs.Prelude.{Ok, Err}
 use Rattle.saved_write.specs.Writes.{WriteIs}
 
 -- ---- parts by their ends, as the code lends them
-pub bytes_put : (from xs ys : List ℕ) (at : ℕ) → at + length from ≤ length xs
-    → ys ≡ over (take (length (take (at + length from - at) (drop at xs))) from) (take (at + length from - at) (drop at xs))
-    → take at xs ++ (ys ++ drop (at + length from - at) (drop at xs)) ≡ laid xs at from
-bytes_put from xs ys at h e =
-    let all = take_all (length from) from (omega arith) in
-    laid_part xs at (length from) h from ys refl (rw (part_long xs at (length from) h, all) at e)
-
 quarter : (n : ℕ) → 4 * n / 4 ≡ n
 quarter n = omega arith
 
@@ -70,10 +64,10 @@ module _ (bytes words d : List ℕ) (b : length bytes ≡ BYTES) (w : length wor
       rw (bytes_of_lem bytes words b, words_of_lem bytes words w) (h ∙ rw (first, rest, append_assoc header bytes (word_bytes words), long))
 
 -- ---- what writing answers
-pub no_room : {bytes words out : List ℕ} → length out < FORM → WriteIs bytes words out false out
+pub no_room : {bytes words out : List ℕ} → length out < FORM → WriteIs bytes words out (Err Room) out
 unfolding when◌then◌else◌
-no_room l = record { room = sym (lt-leb _ _ l); buffer = rw (lt-leb _ _ l) }
+no_room l = record { room = rw (lt-leb _ _ l); buffer = rw (lt-leb _ _ l) }
 
-pub written : {bytes words out after : List ℕ} → FORM ≤ length out → after ≡ over (form (state_in bytes words)) out → WriteIs bytes words out true after
+pub written : {bytes words out after : List ℕ} → FORM ≤ length out → after ≡ over (form (state_in bytes words)) out → WriteIs bytes words out (Ok tt) after
 unfolding when◌then◌else◌
-written l e = record { room = sym (le-leb _ _ l); buffer = rw (le-leb _ _ l) e }
+written l e = record { room = rw (le-leb _ _ l); buffer = rw (le-leb _ _ l) e }

@@ -7,6 +7,7 @@ ghost use Rattle.saved_form.specs.Restoring.{laid};
 ghost use Rattle.saved_write.specs.Writes.{WriteIs};
 
 use memory::{BYTES, WORDS};
+use saved_answer::SaveRefusal;
 use saved_form::{FORM, HEADER};
 
 // "TWS", and the version that is saved.
@@ -20,7 +21,7 @@ fn put_bytes(from: &[u8], at: usize, out: &mut [u8])
     ensures { out.new ≡ laid out.old at from.now }
 {
     let end = at + from.len();
-    saved_copy::copy_bytes(from, &mut out[at..end]);
+    out[at..end].copy_from_slice(from);
 }
 
 // Words, four bytes each.
@@ -32,17 +33,15 @@ fn put_words(from: &[u32], at: usize, out: &mut [u8])
     saved_copy::write_words(from, &mut out[at..end]);
 }
 
-// Write a memory, and answer whether there is room; without it nothing is written. The form stands at the front of the buffer, the rest of
-// which stays.
-pub fn write(bytes: [u8; BYTES], words: [u32; WORDS], out: &mut [u8]) -> bool
+// Write a memory; without room nothing is written. The form stands at the front of the buffer, the rest of which stays.
+pub fn write(bytes: [u8; BYTES], words: [u32; WORDS], out: &mut [u8]) -> Result<(), SaveRefusal>
     ensures { WriteIs bytes words out.old result out.new }
 {
     if out.len() < FORM {
-        return false;
+        return Err(SaveRefusal::Room);
     }
-    let head = HEAD;
-    put_bytes(&head, 0, out);
+    put_bytes(&HEAD, 0, out);
     put_bytes(&bytes, HEADER, out);
     put_words(&words, WORDSAT, out);
-    true
+    Ok(())
 }

@@ -1,17 +1,18 @@
 -- Numbers read digit by digit. Assumes nothing.
 use mathlib.Core.Path.{◌≡◌, refl}
-use mathlib.Core.Bool.{Bool, true, false}
-use mathlib.Core.List.{List}
+use mathlib.Core.Bool.{Bool, true, false, ◌&&◌}
+use mathlib.Core.List.{List, [], ◌∷◌}
 use Prim.Native.Nat.{ℕ, ◌+◌, ◌*◌, ◌≤◌, ◌<◌}
 use native.Mathlib.Nat.{mul-le-mul}
 use native.Mathlib.Omega.{arith}
 use native.Mathlib.Numerals.{add-one}
-use lib.Dec.{leb}
-use lib.ListN.{length, get_or, drop, drop_of_length-le}
+use lib.Dec.{leb, eqb}
+use lib.Pointwise.{pointwise}
+use lib.ListN.{length, get_or, take, drop, drop_of_length-le}
 use lib.Seq.{drop-cons}
-use borrow.Author.Tests.{leb-true, le-leb, lt-leb}
+use borrow.Author.Tests.{leb-true}
 use Rattle.test_words.specs.Words.{pick}
-use Rattle.test_words.specs.Numbers.{WRONG, digit_of, joined, value_after, all_hex}
+use Rattle.test_words.specs.Numbers.{WRONG, digit_of, joined, value_after, minus, number_of}
 
 -- a number with a digit after it is WRONG at most
 low : (a b : Bool) (x : ℕ) → (b ≡ true → x ≤ WRONG) → pick a (pick b x WRONG) WRONG ≤ WRONG
@@ -33,19 +34,24 @@ pub value_end : (s : List ℕ) (i v : ℕ) → length s ≤ i → value_after v 
 unfolding value_after
 value_end s i v h = rw (drop_of_length-le s h)
 
--- ---- hexadecimal digits: the byte at place i, whose value is d
-module _ (s : List ℕ) (i : ℕ) {d : ℕ} (more : i < length s) (e : d ≡ digit_of (get_or s i 0)) where
-  pub hex_on : d ≤ 15 → all_hex (drop (i + 1) s) ≡ all_hex (drop i s)
-  unfolding all_hex pick
-  hex_on h = rw (add-one i, drop-cons s i 0 more, ← e, le-leb d 15 h)
+-- ---- a number with a minus before it, and without
+pub signed : (s : List ℕ) → pointwise eqb (take 1 s) (45 ∷ []) ≡ true → number_of s ≡ minus (value_after 0 (drop 1 s))
+unfolding number_of pick
+signed [] e = absurd (cc)
+signed (b ∷ t) e = go (eqb b 45) e
+  where
+    go : (x : Bool) → (x && true) ≡ true → pick x (minus (value_after 0 t)) (value_after 0 (b ∷ t)) ≡ minus (value_after 0 t)
+    go true e = refl
+    go false e = absurd (cc)
 
-  pub hex_stop : 15 < d → all_hex (drop i s) ≡ false
-  unfolding all_hex pick
-  hex_stop h = rw (drop-cons s i 0 more, ← e, lt-leb d 15 h)
-
-pub hex_end : (s : List ℕ) (i : ℕ) → length s ≤ i → all_hex (drop i s) ≡ true
-unfolding all_hex
-hex_end s i h = rw (drop_of_length-le s h)
+pub unsigned : (s : List ℕ) → pointwise eqb (take 1 s) (45 ∷ []) ≡ false → number_of s ≡ value_after 0 s
+unfolding number_of pick
+unsigned [] e = refl
+unsigned (b ∷ t) e = go (eqb b 45) e
+  where
+    go : (x : Bool) → (x && true) ≡ false → pick x (minus (value_after 0 t)) (value_after 0 (b ∷ t)) ≡ value_after 0 (b ∷ t)
+    go true e = absurd (cc)
+    go false e = refl
 
 -- the product of two bytes
 pub small : {x y : ℕ} → x ≤ 255 → y ≤ 255 → x * y ≤ 65025

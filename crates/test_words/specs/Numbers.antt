@@ -1,5 +1,6 @@
 -- The numbers and bytes that words stand for. Assumes nothing.
-use Rattle.std.specs.Prelude.{Bool, true, false, List, [], ◌∷◌, ℕ, ◌+◌, ◌*◌, ◌-◌, ◌%◌, eqb, leb, get_or, drop}
+use Rattle.std.specs.Prelude.{Bool, List, [], ◌∷◌, ℕ, ◌+◌, ◌*◌, ◌-◌, ◌%◌, eqb, leb, get_or, drop}
+use Rattle.std.specs.List.{list_all}
 use Rattle.test_words.specs.Words.{pick}
 
 -- what stands for a number that cannot be read
@@ -31,6 +32,6 @@ number_of s = pick (eqb (get_or s 0 0) 45) (minus (value_after 0 (drop 1 s))) (v
 unfoldable pub hex_byte : List ℕ → ℕ → ℕ
 hex_byte s k = 16 * (digit_of (get_or s (2 * k) 0) % 16) + digit_of (get_or s (2 * k + 1) 0) % 16
 
-unfoldable pub all_hex : List ℕ → Bool
-all_hex [] = true
-all_hex (b ∷ t) = pick (leb (digit_of b) 15) (all_hex t) false
+-- every byte is a hexadecimal digit
+abbrev pub all_hex : List ℕ → Bool
+all_hex s = list_all (λ b. leb (digit_of b) 15) s

@@ -1,5 +1,5 @@
 -- The words of a line. Assumes nothing.
-use Rattle.std.specs.Prelude.{◌≡◌, Bool, true, false, not, List, [], ◌∷◌, ℕ, zero, suc, ◌+◌, ◌-◌, ◌≤◌, ◌<◌, eqb, length, take, drop}
+use Rattle.std.specs.Prelude.{◌≡◌, Bool, true, false, not, List, [], ◌∷◌, ℕ, zero, suc, ◌+◌, ◌-◌, ◌≤◌, ◌<◌, eqb, length, take, drop, Option, Some, None}
 
 -- the most words of a line, and the most names that are looked through, as the code has them
 abbrev pub WORDS : ℕ
@@ -54,3 +54,8 @@ pub record Placed (names text : List ℕ) (r : ℕ) : Type 0 where
   pub first : (j : ℕ) → j < r → word_in 32 names j ≡ text → ⊥
   pub here : r < 32 → word_in 32 names r ≡ text
   pub most : r ≤ 32
+
+-- the place of a name that is found; 32 where there is none
+abbrev pub place_of : Option ℕ → ℕ
+place_of (Some j) = j
+place_of None = 32

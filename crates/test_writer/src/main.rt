@@ -8,17 +8,14 @@
 #![tactic(auto)]
 
 mod attempt;
-mod show;
 
-use basics::wide32;
-use show::text;
 use std::io;
 use test_words::{WRONG, number_in};
 
 // So many of the bytes are parts, if there are so many bytes.
 fn counted(rt: &impl Print, bytes: &[u8], count: usize, room: usize) -> io::Result<()> {
     if bytes.len() < count {
-        return text(rt, b": NO BYTES");
+        return print!(rt; ": NO BYTES");
     }
     attempt::attempt(rt, bytes, count, room)
 }
@@ -28,27 +25,25 @@ fn numbered(rt: &impl Print, line: &[u8], bytes: &[u8]) -> io::Result<()> {
     let room = number_in(line, 1);
     let count = number_in(line, 2);
     if (WRONG <= room) | (WRONG <= count) {
-        return text(rt, b": NO NUMBER");
+        return print!(rt; ": NO NUMBER");
     }
-    counted(rt, bytes, wide32(count), wide32(room))
+    counted(rt, bytes, count as usize, room as usize)
 }
 
 // A line of `write`: its bytes stand after the numbers. Bytes that fill their buffer may not be all.
 fn write(rt: &impl Print, line: &[u8]) -> io::Result<()> {
     let mut bytes = [0u8; 65536];
-    let n = test_words::bytes_in(line, 3, &mut bytes);
-    if 65535 < n {
-        return text(rt, b": NO BYTES");
+    match test_words::bytes_in(line, 3, &mut bytes) {
+        Some(n) if n < 65536 => numbered(rt, line, &bytes[..n]),
+        _ => print!(rt; ": NO BYTES"),
     }
-    numbered(rt, line, &bytes[0..n])
 }
 
 // A line that is a command.
 fn command(rt: &impl Print, line: &[u8]) -> io::Result<()> {
-    if test_words::name_in(b"write", line, 0) == 0 {
-        write(rt, line)
-    } else {
-        text(rt, b": NO COMMAND")
+    match test_words::name_in(b"write", line, 0) {
+        Some(0) => write(rt, line),
+        _ => print!(rt; ": NO COMMAND"),
     }
 }
 
@@ -58,25 +53,11 @@ fn line(rt: &impl Print, s: &[u8]) -> io::Result<()> {
     if (first == 0) | (first == b';') {
         return Ok(());
     }
-    text(rt, s)?;
+    rt.write_all(s)?;
     if first != b'#' {
         command(rt, s)?;
     }
-    text(rt, b"\n")
-}
-
-// Every line of a script.
-fn lines(rt: &impl Print, s: &[u8]) -> io::Result<()> {
-    let mut at: usize = 0;
-    while at < s.len() {
-        let end = test_words::scan(s, at, b'\n', true);
-        line(rt, &s[at..end])?;
-        if s.len() <= end {
-            return Ok(());
-        }
-        at = end + 1;
-    }
-    Ok(())
+    rt.write_all(b"\n")
 }
 
 // The script is read whole, so it has to be shorter than the buffer.
@@ -84,7 +65,10 @@ fn main(rt: HostRuntime) -> io::Result<()> {
     let mut script = [0u8; 65536];
     let n = test_words::read_input(&rt, &mut script)?;
     if 65535 < n {
-        text(&rt, b"SCRIPT TOO LONG\n")?;
+        println!(&rt; "SCRIPT TOO LONG")?;
     }
-    lines(&rt, &script[..n])
+    for s in script[..n].split(|b| *b == b'\n') {
+        line(&rt, s)?;
+    }
+    Ok(())
 }

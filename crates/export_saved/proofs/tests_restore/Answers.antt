@@ -8,6 +8,6 @@ pub returns : goal.returns
 returns c =
     let restored = c.restore-restored.ensures in
     record {
-      number = c.word8.ensures ∙ (c.restore_number.ensures ∙ ap (λ (s : Restored). s.number) restored);
+      number = c.from.ensures ∙ (c.restore_number.ensures ∙ ap (λ (s : Restored). s.number) restored);
       state = ap (λ (s : Restored). s.state) restored;
     }

@@ -8,6 +8,6 @@ pub returns : goal.returns
 returns c =
     let saved = c.save-answer.ensures in
     record {
-      number = c.word8.ensures ∙ (c.save_number.ensures ∙ ap (λ (s : Saved). s.number) saved);
+      number = c.from.ensures ∙ (c.save_number.ensures ∙ ap (λ (s : Saved). s.number) saved);
       buffer = ap (λ (s : Saved). s.buffer) saved;
     }

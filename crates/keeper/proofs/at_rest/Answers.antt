@@ -1,5 +1,5 @@
 -- `keeper::at_rest` meets its contract: the counts and the entries are stored into the memory of the empty bench. Assumes nothing.
-use mathlib.Core.Path.{◌≡◌}
+use mathlib.Core.Path.{◌≡◌, ◌∙◌}
 use lib.ListN.{length}
 use native.Mathlib.Omega.{arith}
 use Rattle.model.specs.Limits.{LINKS, ROWS}
@@ -24,4 +24,4 @@ returns c =
     let x = many_bytes (goal.at.returns c).After-empty-fresh in
     let y = many_words (goal.at.returns c).After-empty-fresh in
     at_rest_lem _ _ _ _ _ _ _ _ _ c.empty-fresh.ensures (omega arith) (omega arith) c.byte_at.ensures c.set_devices.ensures
-    c.byte_at-2.ensures c.set_links.ensures c.enter_devices.ensures c.enter_links.ensures
+    (c.from.ensures ∙ c.byte_at-2.ensures) c.set_links.ensures c.enter_devices.ensures c.enter_links.ensures

@@ -1,8 +1,13 @@
 -- `keeper_questions::child_count` meets its contract. Assumes nothing.
 use mathlib.Core.Path.{◌∙◌}
-use Rattle.keeper_questions.proofs.Telling.{answered}
+use Rattle.std.proofs.lemmas.Result.{err_from_is_err_and}
+use Rattle.keeper_questions.proofs.Telling.{refused, answered}
 use Rattle.keeper_questions.proofs.child_count.Goals as goal
 
+pub returns-in_err-about : goal.returns-in_err-about
+returns-in_err-about c =
+    let p = err_from_is_err_and c.from_residual.result c.from_residual.ensures.1 in
+    rw (p.1, p.2) (refused c.in_err-about.ensures _)
+
 pub returns : goal.returns
-returns c =
-    answered c.about-check.ensures c.tell_number.ensures (λ s k. c.word8.ensures ∙ c.children.ensures c.args.b.words)
+returns c = answered c.in_ok-about.ensures (c.from.ensures ∙ c.children.ensures c.args.b.words)

@@ -1,5 +1,4 @@
 -- `saved_copy::read_words` meets its contract. The invariant: the words passed stand at the front. Assumes nothing.
-use Prim.Native.Nat.{◌-◌}
 use lib.ListN.{length, take}
 use Rattle.saved_form.specs.Words.{words_from}
 use Rattle.saved_copy.proofs.Copying.{Copied}
@@ -7,6 +6,3 @@ use Rattle.saved_copy.proofs.read_words.Given as goal
 
 abbrev pub invariant-loop-j : goal.invariant-loop-j
 invariant-loop-j l = Copied l.count (take (length l.initial.into) (words_from l.from)) l.initial.into l.j l.into
-
-abbrev pub decreases-loop-j : goal.decreases-loop-j
-decreases-loop-j l = l.count - l.j

@@ -1,14 +1,10 @@
--- `saved_copy::write_word` meets its contract: four stores, each within the slice. Assumes nothing.
-use native.Mathlib.Omega.{arith}
-use lib.ListN.{length-set}
+-- `saved_copy::write_word` meets its contract: the four bytes stand at their place, and the rest stays. Assumes nothing.
+use mathlib.Core.Path.{refl, ◌∙◌}
+use Rattle.saved_form.specs.Words.{word_bytes}
+use Rattle.saved_copy.proofs.Parts.{laid_put}
+use Rattle.saved_copy.proofs.Copying.{four_bytes}
 use Rattle.saved_copy.proofs.write_word.Goals as goal
 
--- the stores before this one keep the length
-pub bounds-into-at-2 : goal.bounds-into-at-2
-bounds-into-at-2 c = simp length-set (omega arith)
-
-pub bounds-into-at-3 : goal.bounds-into-at-3
-bounds-into-at-3 c = simp length-set (omega arith)
-
-pub bounds-into-at-4 : goal.bounds-into-at-4
-bounds-into-at-4 c = simp length-set (omega arith)
+pub returns : goal.returns
+unfolding word_bytes
+returns c = laid_put c.args.into.now c.args.at 4 _ _ refl (c.copy_from_slice.ensures.after ∙ c.to_le_bytes.ensures ∙ four_bytes c.args.w)

@@ -8,12 +8,8 @@ use Rattle.saved_read.proofs.cells_of.Goals as goal
 
 pub fill-requires : goal.fill-requires
 unfolding FORM BYTES WORDS ROWS LINKS
-fill-requires c =
-    let fresh = c.refused-fresh.ensures in
-    version1_fits _ _ _ c.requires (zeros_long fresh.1) (zeros_long fresh.2)
+fill-requires c = version1_fits _ _ _ c.requires (zeros_long refl) (zeros_long refl)
 
 pub returns : goal.returns
 unfolding BYTES WORDS ROWS LINKS
-returns c =
-    let fresh = c.refused-fresh.ensures in
-    cells_filled refl fresh.1 fresh.2 c.fill.ensures
+returns c = cells_filled refl refl c.fill.ensures

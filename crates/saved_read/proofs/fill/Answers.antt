@@ -12,45 +12,21 @@ use Rattle.saved_read.proofs.fill.Goals.{Start}
 many : (c : Start) → length c.args.spans ≡ length version1
 many c = let g = c.well_formed.1.0 in search rules
 
-pub loop-k-init : goal.loop-k-init
-loop-k-init c = filling_none _ _ _ _ c.requires
+pub loop-span-init : goal.loop-span-init
+loop-span-init c = filling_none _ _ _ _ c.requires
 
 pub place-requires : goal.place-requires
 place-requires c =
     let z = many (goal.at.place-requires c).Start in
-    let t = c.loop-k-test.true in
-    one_fits (omega arith) c.loop-k.invariant
+    one_fits (omega (arith, c.loop-span-test.true)) c.loop-span.invariant
 
-pub loop-k-smaller : goal.loop-k-smaller
-loop-k-smaller c =
-    let z = many (goal.at.loop-k-smaller c).Start in
-    let t = c.loop-k-test.true in
-    omega arith
-
-pub loop-k-preserved : goal.loop-k-preserved
-loop-k-preserved c =
-    let z = many (goal.at.loop-k-preserved c).Start in
-    let t = c.loop-k-test.true in
-    filling_one (omega arith) c.loop-k.invariant _ _ c.place.ensures
+pub loop-span-preserved : goal.loop-span-preserved
+loop-span-preserved c =
+    let z = many (goal.at.loop-span-preserved c).Start in
+    filling_one (omega (arith, c.loop-span-test.true)) c.loop-span.invariant _ _ c.place.ensures
 
 -- all spans are laid
 pub returns : goal.returns
 returns c =
     let z = many (goal.at.returns c).Start in
-    let t = c.loop-k-test.false in
-    filling_all (omega arith) c.loop-k.invariant
-
-pub offset_bounds-spans-k : goal.offset_bounds-spans-k
-offset_bounds-spans-k c = omega arith
-
-pub bounds-spans-k : goal.bounds-spans-k
-bounds-spans-k c = omega arith
-
-pub overflow_add-k : goal.overflow_add-k
-overflow_add-k c = omega arith
-
-pub shape_of-bytes : goal.shape_of-bytes
-shape_of-bytes c = c.loop-k.invariant.long_bytes
-
-pub shape_of-words : goal.shape_of-words
-shape_of-words c = c.loop-k.invariant.long_words
+    filling_all (omega (arith, c.loop-span-test.false)) c.loop-span.invariant

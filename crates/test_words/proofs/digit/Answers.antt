@@ -1,32 +1,26 @@
--- `test_words::digit` meets its contract: each exit is a case of the tests. Assumes nothing.
-use borrow.Author.Tests.{le-leb, lt-leb}
+-- `test_words::digit` meets its contract. Assumes nothing.
+use native.Mathlib.Omega.{arith}
+use Rattle.std.proofs.lemmas.Grind.{common_steps}
 use Rattle.test_words.specs.Words.{pick}
 use Rattle.test_words.specs.Numbers.{digit_of}
 use Rattle.test_words.proofs.digit.Goals as goal
 
--- before 0
-pub returns-then-b-lt48 : goal.returns-then-b-lt48
+pub returns-in-48-to-57 : goal.returns-in-48-to-57
 unfolding digit_of pick
-returns-then-b-lt48 c = rw (lt-leb 48 _ c.if-b-lt48.true)
+returns-in-48-to-57 c = grind (arith, common_steps)
 
--- 0 to 9
-pub returns-then-b-le57 : goal.returns-then-b-le57
+pub returns-in-65-to-70 : goal.returns-in-65-to-70
 unfolding digit_of pick
-returns-then-b-le57 c = rw (le-leb 48 _ c.if-b-lt48.false, le-leb _ 57 c.if-b-le57.true)
+returns-in-65-to-70 c = grind (arith, common_steps)
 
--- between 9 and A
-pub returns-then-b-lt65 : goal.returns-then-b-lt65
+pub returns-in_default : goal.returns-in_default
 unfolding digit_of pick
-returns-then-b-lt65 c = rw (le-leb 48 _ c.if-b-lt48.false, lt-leb _ 57 c.if-b-le57.false, lt-leb 65 _ c.if-b-lt65.true)
+returns-in_default c = grind (arith, common_steps)
 
--- A to F
-pub returns-then-b-le70 : goal.returns-then-b-le70
+pub returns-in_default-2 : goal.returns-in_default-2
 unfolding digit_of pick
-returns-then-b-le70 c =
-    rw (le-leb 48 _ c.if-b-lt48.false, lt-leb _ 57 c.if-b-le57.false, le-leb 65 _ c.if-b-lt65.false, le-leb _ 70 c.if-b-le70.true)
+returns-in_default-2 c = grind (arith, common_steps)
 
--- after F
-pub returns : goal.returns
+pub returns-in_default-3 : goal.returns-in_default-3
 unfolding digit_of pick
-returns c =
-    rw (le-leb 48 _ c.if-b-lt48.false, lt-leb _ 57 c.if-b-le57.false, le-leb 65 _ c.if-b-lt65.false, lt-leb _ 70 c.if-b-le70.false)
+returns-in_default-3 c = grind (arith, common_steps)

@@ -5,17 +5,17 @@ use native.Mathlib.Omega.{arith}
 use Rattle.test_words.proofs.Reading.{joined_low, value_on, value_end}
 use Rattle.test_words.proofs.digits.Goals as goal
 
-pub loop-i-preserved : goal.loop-i-preserved
-loop-i-preserved c =
+pub loop-b-init : goal.loop-b-init
+loop-b-init c = (omega arith, refl)
+
+pub loop-b-preserved : goal.loop-b-preserved
+loop-b-preserved c =
     let s = c.args.s.now in
     let read = rw c.digit.ensures at c.joined-v.ensures in
-    (rw c.joined-v.ensures (joined_low _ _), rw read (value_on s c.loop-i.i c.loop-i.v c.loop-i-test.true) ∙ c.loop-i.invariant.1)
+    (rw c.joined-v.ensures (joined_low _ _), rw read (value_on s c.loop-b.b-index c.loop-b.v c.loop-b-test.true) ∙ c.loop-b.invariant.1)
 
 -- every digit is read
 pub returns : goal.returns
 returns c =
-    let at = c.loop-i in
-    sym (value_end c.args.s.now at.i at.v c.loop-i-test.false) ∙ at.invariant.1
-
-pub loop-i-init : goal.loop-i-init
-loop-i-init c = (omega arith, refl)
+    let at = c.loop-b in
+    sym (value_end c.args.s.now at.b-index at.v c.loop-b-test.false) ∙ at.invariant.1

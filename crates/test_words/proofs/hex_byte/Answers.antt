@@ -1,9 +1,7 @@
--- `test_words::hex_byte` meets its contract: the two digits read are those of `hex_byte`. Assumes nothing.
+-- `test_words::hex_byte` meets its contract. Assumes nothing.
 use Rattle.test_words.specs.Numbers.{hex_byte}
 use Rattle.test_words.proofs.hex_byte.Goals as goal
 
--- the one exit
 pub returns : goal.returns
 unfolding hex_byte
-returns c =
-    rw (c.digit-high.ensures, c.byte_at.ensures) (rw (c.digit-low.ensures, c.byte_at-2.ensures))
+returns c = rw (c.digit-high.ensures, c.byte_at.ensures) (rw (c.digit-low.ensures, c.byte_at-2.ensures))

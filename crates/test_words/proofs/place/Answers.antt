@@ -1,22 +1,19 @@
--- `test_words::place` meets its contract. The invariant: the text is none of the names passed. Assumes nothing.
+-- `test_words::place` meets its contract. Assumes nothing.
+use mathlib.Core.Path.{◌≡◌, sym, ◌∙◌}
+use mathlib.Core.Bool.{true, false}
+use lib.Pointwise.{bytes_decides}
 use native.Mathlib.Omega.{arith}
 use borrow.Author.Count.{below_more}
-use Rattle.test_words.proofs.Scanning.{denied}
 use Rattle.test_words.proofs.place.Goals as goal
 
--- found
-pub returns-then-named : goal.returns-then-named
-returns-then-named c =
-    record { first = c.loop-j.invariant.1; here = λ h. c.named.ensures.0 c.if-named.true; most = c.loop-j.invariant.0 }
+pub loop-j-init : goal.loop-j-init
+loop-j-init c = λ k h. absurd (omega arith)
+
+pub returns-then-eq : goal.returns-then-eq
+returns-then-eq c = record { first = c.loop-j.invariant; here = λ h. sym c.word.ensures ∙ (bytes_decides _ _).0 (sym c.if-eq.ensures); most = omega arith }
 
 pub loop-j-preserved : goal.loop-j-preserved
-loop-j-preserved c =
-    (omega arith, below_more _ _ c.loop-j.invariant.1 (denied c.named.ensures.1 c.if-named.false))
+loop-j-preserved c = below_more _ _ c.loop-j.invariant (λ e. let z : true ≡ false = sym ((bytes_decides _ _).1 (c.word.ensures ∙ e)) ∙ sym c.if-eq.ensures in absurd (cc))
 
--- none of them
 pub returns : goal.returns
-returns c =
-    record { first = c.loop-j.invariant.1; here = λ h. absurd (omega arith); most = c.loop-j.invariant.0 }
-
-pub loop-j-init : goal.loop-j-init
-loop-j-init c = (omega arith, (λ k h. absurd (omega arith)))
+returns c = let e : c.loop-j.j ≡ 32 = omega arith in record { first = rw e at c.loop-j.invariant; here = λ h. absurd (omega arith); most = omega arith }

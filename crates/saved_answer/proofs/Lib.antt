@@ -1,2 +1,0 @@
--- What the proofs of callers cite.
-pub mod Numbers

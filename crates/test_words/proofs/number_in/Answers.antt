@@ -1,7 +1,0 @@
--- `test_words::number_in` meets its contract: the part read is the word. Assumes nothing.
-use Rattle.test_words.proofs.Scanning.{word_text}
-use Rattle.test_words.proofs.number_in.Goals as goal
-
--- the one exit
-pub returns : goal.returns
-returns c = rw (← word_text 32 c.word-w.ensures) c.number.ensures
