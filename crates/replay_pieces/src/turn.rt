@@ -2,7 +2,7 @@
 ghost use Rattle.replay_pieces.specs.Turns.{Turned};
 
 use keeper_bench::Bench;
-use record_answer::Answer;
+use record_answer::Refusal;
 
 // Where a replay stands: the bench, and how many pieces and replies there are so far.
 #[derive(Clone, Copy)]
@@ -16,7 +16,7 @@ pub struct Progress {
 #[derive(Clone, Copy)]
 pub struct Turn {
     pub progress: Progress,
-    pub answer: Answer,
+    pub answer: Result<u16, Refusal>,
     pub bytes: usize,
 }
 
@@ -32,10 +32,10 @@ pub fn feed(progress: Progress, piece: &[u8], replies: &mut [u8]) -> Turn
     Turn {
         progress: Progress {
             bench: left,
-            pieces: std::num::wrapping_add_u64(progress.pieces, 1),
-            replies: std::num::wrapping_add_u64(progress.replies, more as u64),
+            pieces: progress.pieces.wrapping_add(1),
+            replies: progress.replies.wrapping_add(u64::from(more)),
         },
-        answer: answer,
-        bytes: 4 * more as usize,
+        answer,
+        bytes: 4 * usize::from(more),
     }
 }

@@ -5,7 +5,6 @@ ghost use Rattle.std.specs.Prelude.{◌≡◌};
 ghost use Rattle.replay_text.specs.Line.{line_of};
 ghost use Rattle.replay_refusals.specs.Lines.{speaker_text, stopped_text, unsaved_text, unrestored_text};
 
-use basics::long8;
 use replay_text::line::{Line, field, start, word};
 
 // The program that speaks.
@@ -23,7 +22,7 @@ pub fn stopped(resumes: bool, number: u8) -> Line
     ensures { result ≡ line_of (stopped_text resumes number) }
 {
     word(
-        field(speaker(resumes), b"piece refused ", long8(number)),
+        field(speaker(resumes), b"piece refused ", u64::from(number)),
         b"\n",
     )
 }
@@ -33,7 +32,7 @@ pub fn unsaved(resumes: bool, number: u8) -> Line
     ensures { result ≡ line_of (unsaved_text resumes number) }
 {
     word(
-        field(speaker(resumes), b"state refused ", long8(number)),
+        field(speaker(resumes), b"state refused ", u64::from(number)),
         b"\n",
     )
 }
@@ -42,5 +41,5 @@ pub fn unsaved(resumes: bool, number: u8) -> Line
 pub fn unrestored(number: u8) -> Line
     ensures { result ≡ line_of (unrestored_text number) }
 {
-    word(field(start(), b"state refused ", long8(number)), b"\n")
+    word(field(start(), b"state refused ", u64::from(number)), b"\n")
 }

@@ -5,7 +5,6 @@ ghost use Rattle.std.specs.Prelude.{◌≡◌, ◌+◌};
 ghost use Rattle.replay_text.specs.Line.{line_of, added};
 ghost use Rattle.replay_row.specs.Rows.{status_text, sign_text, row_text};
 
-use basics::{long8, long32};
 use replay_text::line::{Line, field, number, start, word};
 
 // The line with the word of a status.
@@ -35,7 +34,7 @@ fn sign(line: Line, magnitude: u32) -> Line
 fn usage(holds: u32, linked: u32) -> u64
     ensures { result ≡ holds + linked }
 {
-    holds as u64 + linked as u64
+    u64::from(holds) + u64::from(linked)
 }
 
 // What is told of a device: its status, user holds, runtime links from powered consumers, powered children, disable depth, and the
@@ -54,12 +53,12 @@ pub struct Row {
 pub fn device(p: u8, row: Row) -> Line
     ensures { result ≡ line_of (row_text p row) }
 {
-    let named = field(start(), b"device ", long8(p));
+    let named = field(start(), b"device ", u64::from(p));
     let placed = status_word(word(named, b" status "), row.status);
     let used = field(placed, b" usage ", usage(row.holds, row.linked));
-    let counted = field(used, b" children ", long8(row.children));
-    let held = field(counted, b" holds ", long32(row.holds));
-    let disabled = field(held, b" depth ", long8(row.depth));
+    let counted = field(used, b" children ", u64::from(row.children));
+    let held = field(counted, b" holds ", u64::from(row.holds));
+    let disabled = field(held, b" depth ", u64::from(row.depth));
     let signed = sign(word(disabled, b" error "), row.error);
-    word(number(signed, long32(row.error)), b"\n")
+    word(number(signed, u64::from(row.error)), b"\n")
 }

@@ -9,5 +9,5 @@ pub returns : goal.returns
 unfolding ascii unrestored_text
 returns c =
     let h = holds_start c.start.ensures in
-    let g = holds_field (ascii "state refused ") c.args.number h c.long8.ensures c.field.ensures (omega arith) in
+    let g = holds_field (ascii "state refused ") c.args.number h c.from.ensures c.field.ensures (omega arith) in
     (holds_word (ascii "\n") g c.word.ensures (omega arith)).line

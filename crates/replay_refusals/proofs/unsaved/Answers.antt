@@ -11,5 +11,5 @@ unfolding ascii unsaved_text
 returns c =
     let args = c.args in
     let h = holds_speaker args.resumes c.speaker.ensures in
-    let g = holds_field (ascii "state refused ") args.number h c.long8.ensures c.field.ensures (omega arith) in
+    let g = holds_field (ascii "state refused ") args.number h c.from.ensures c.field.ensures (omega arith) in
     (holds_word (ascii "\n") g c.word.ensures (omega arith)).line

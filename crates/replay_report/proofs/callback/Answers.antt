@@ -19,7 +19,7 @@ pub returns-in-1 : goal.returns-in-1
 unfolding ascii callback_text when◌then◌else◌
 returns-in-1 c =
     let h = holds_start c.start-in-1.ensures in
-    let g = holds_field (ascii "callback suspend ") c.args.asked h c.long8.ensures c.field.ensures (omega arith) in
+    let g = holds_field (ascii "callback suspend ") c.args.asked h c.from.ensures c.field.ensures (omega arith) in
     rw c.in-1.is (holds_word (ascii "\n") g c.word-in-1.ensures (omega arith)).line
 
 -- resume
@@ -28,8 +28,8 @@ unfolding ascii callback_text when◌then◌else◌
 returns-in-2 c =
     let args = c.args in
     let h = holds_start c.start-in-2.ensures in
-    let g = holds_field (ascii "callback resume ") args.asked h c.long8-in-2.ensures c.field-asking.ensures (omega arith) in
-    let i = holds_field (ascii " for ") args.target g c.long8-in-2-2.ensures c.field-in-2.ensures (omega arith) in
+    let g = holds_field (ascii "callback resume ") args.asked h c.from-in-2.ensures c.field-asking.ensures (omega arith) in
+    let i = holds_field (ascii " for ") args.target g c.from-in-2-2.ensures c.field-in-2.ensures (omega arith) in
     rw c.in-2.is (holds_word (ascii "\n") i c.word-in-2.ensures (omega arith)).line
 
 -- idle
@@ -37,7 +37,7 @@ pub returns-in-3 : goal.returns-in-3
 unfolding ascii callback_text when◌then◌else◌
 returns-in-3 c =
     let h = holds_start c.start-in-3.ensures in
-    let g = holds_field (ascii "callback idle ") c.args.asked h c.long8-in-3.ensures c.field-in-3.ensures (omega arith) in
+    let g = holds_field (ascii "callback idle ") c.args.asked h c.from-in-3.ensures c.field-in-3.ensures (omega arith) in
     rw c.in-3.is (holds_word (ascii "\n") g c.word-in-3.ensures (omega arith)).line
 
 -- of a bench that is not sound

@@ -11,8 +11,8 @@ pub returns : goal.returns
 unfolding ascii refused_text
 returns c =
     let answer = answer_of c.args.answer in
-    let n = c.long8.ensures ∙ c.number.ensures in
-    let i = c.long16.ensures ∙ c.index.ensures in
+    let n = c.from.ensures ∙ c.number.ensures in
+    let i = c.from-2.ensures ∙ c.index.ensures in
     let g = holds_field (ascii "table refused ") answer.number (holds_start c.start.ensures) n c.field-numbered.ensures (omega arith) in
     let k = holds_field (ascii " ") answer.index g i c.field-indexed.ensures (omega arith) in
     (holds_word (ascii "\n") k c.word.ensures (omega arith)).line

@@ -12,6 +12,6 @@ returns c =
       met = met;
       bytes = ap (λ (k : ℕ). 4 * k) more;
       within = rw (more, ap (λ (f : Fed). f.buffer) met) (replies_within _ _);
-      pieces = c.wrapping_add_u64.ensures.value;
-      total = c.wrapping_add_u64-2.ensures.value ∙ ap (λ (k : ℕ). (c.args.progress.replies + k) % 2 ^ 64) more;
+      pieces = c.wrapping_add.ensures.value;
+      total = c.wrapping_add-2.ensures.value ∙ ap (λ (k : ℕ). (c.args.progress.replies + k) % 2 ^ 64) more;
     }
