@@ -1,7 +1,7 @@
 // The programs' arguments.
 use crate::files::speak;
 use program_files::{arg_count, argument, same_name, say};
-use replay_text::size::{MOST, Size};
+use replay_text::size::MOST;
 use std::env::Env;
 
 // What the arguments ask for: the program that speaks, the size of the pieces, and which argument names the file to save to, 0 for none.
@@ -12,18 +12,11 @@ pub struct Task {
     pub save: usize,
 }
 
-// A task, or arguments that give none.
-#[derive(Clone, Copy)]
-pub enum Asked {
-    Wrong,
-    Given(Task),
-}
-
 // The size of the pieces that argument 4 gives.
-fn size(rt: &impl Env) -> Size {
+fn size(rt: &impl Env) -> Option<usize> {
     let mut text = io::buffer();
     let Ok(length) = argument(rt, 4, &mut text) else {
-        return Size::Wrong;
+        return None;
     };
     replay_text::size::read(&text[..length])
 }
@@ -31,62 +24,45 @@ fn size(rt: &impl Env) -> Size {
 // Whether argument i is `--save`.
 fn is_save(rt: &impl Env, i: usize) -> bool {
     let mut text = io::buffer();
-    let Ok(length) = argument(rt, i, &mut text) else {
-        return false;
-    };
-    &text[..length] == b"--save".as_slice()
+    match argument(rt, i, &mut text) {
+        Ok(length) => &text[..length] == b"--save".as_slice(),
+        Err(_) => false,
+    }
 }
 
 // With PIECE, and the argument that names the file to save to.
-fn sized(rt: &impl Env, resumes: bool, save: usize) -> Asked {
-    let Size::Bytes(size) = size(rt) else {
-        return Asked::Wrong;
-    };
-    Asked::Given(Task {
-        resumes: resumes,
-        size: size,
-        save: save,
+fn sized(rt: &impl Env, resumes: bool, save: usize) -> Option<Task> {
+    let size = size(rt)?;
+    Some(Task {
+        resumes,
+        size,
+        save,
     })
 }
 
 // Without PIECE, whose greatest size it is then.
-fn whole(resumes: bool, save: usize) -> Asked {
-    Asked::Given(Task {
-        resumes: resumes,
+fn whole(resumes: bool, save: usize) -> Option<Task> {
+    Some(Task {
+        resumes,
         size: MOST,
-        save: save,
+        save,
     })
 }
 
 // What follows REPLIES: nothing, PIECE, `--save STATE`, or both in this order.
-fn task_of(rt: &impl Env, resumes: bool) -> Asked {
+fn task_of(rt: &impl Env, resumes: bool) -> Option<Task> {
     match arg_count(rt, 8) {
         4 => whole(resumes, 0),
         5 => sized(rt, resumes, 0),
-        6 => {
-            if is_save(rt, 4) {
-                whole(resumes, 5)
-            } else {
-                Asked::Wrong
-            }
-        }
-        7 => {
-            if is_save(rt, 5) {
-                sized(rt, resumes, 6)
-            } else {
-                Asked::Wrong
-            }
-        }
-        _ => Asked::Wrong,
+        6 if is_save(rt, 4) => whole(resumes, 5),
+        7 if is_save(rt, 5) => sized(rt, resumes, 6),
+        _ => None,
     }
 }
 
 // Whether REPLIES has the name of TABLE, or the STATE to read, or of LOG, which writing it would empty.
 fn overwrites(rt: &impl Env) -> bool {
-    if same_name(rt, 1, 3) {
-        return true;
-    }
-    same_name(rt, 2, 3)
+    same_name(rt, 1, 3) || same_name(rt, 2, 3)
 }
 
 // Whether the file to save to has the name of another file. That of `resume` may be the one that was read.
@@ -95,16 +71,7 @@ fn replaces(rt: &impl Env, task: Task) -> bool {
     if save == 0 {
         return false;
     }
-    if same_name(rt, 2, save) {
-        return true;
-    }
-    if same_name(rt, 3, save) {
-        return true;
-    }
-    if task.resumes {
-        return false;
-    }
-    same_name(rt, 1, save)
+    same_name(rt, 2, save) || same_name(rt, 3, save) || (!task.resumes && same_name(rt, 1, save))
 }
 
 // The usage of the program that speaks.
@@ -123,18 +90,18 @@ fn usage(rt: &impl Eprint, resumes: bool) {
 }
 
 // What the arguments ask for; says what is wrong with them.
-pub fn read(rt: &(impl Env + Eprint), resumes: bool) -> Asked {
-    let Asked::Given(task) = task_of(rt, resumes) else {
+pub fn read(rt: &(impl Env + Eprint), resumes: bool) -> Option<Task> {
+    let Some(task) = task_of(rt, resumes) else {
         usage(rt, resumes);
-        return Asked::Wrong;
+        return None;
     };
     if overwrites(rt) {
         speak(rt, resumes, b"REPLIES has the name of a file to read\n");
-        return Asked::Wrong;
+        return None;
     }
     if replaces(rt, task) {
         speak(rt, resumes, b"STATE has the name of another file\n");
-        return Asked::Wrong;
+        return None;
     }
-    Asked::Given(task)
+    Some(task)
 }

@@ -1,27 +1,25 @@
 // What is said where a file fails, by the program that speaks.
+ghost use Rattle.std.specs.Prelude.{IfOk};
 ghost use Rattle.io.specs.Counts.{IsPrefixLen};
 
-use program_files::{File, say};
-use std::io::Error;
+use program_files::say;
+use std::io::{Error, Result};
 use std::rt::Runtime;
+
+// The program that speaks.
+pub fn speaker(resumes: bool) -> &'static [u8] {
+    if resumes { b"resume: " } else { b"replay: " }
+}
 
 // Says something, after the name of the program.
 pub fn speak(rt: &impl Eprint, resumes: bool, text: &[u8]) {
-    if resumes {
-        say(rt, b"resume: ");
-    } else {
-        say(rt, b"replay: ");
-    }
+    say(rt, speaker(resumes));
     say(rt, text);
 }
 
 // Names a file or an argument that failed, and the reason.
 pub fn complain(rt: &(impl Eprint + Alloc), resumes: bool, what: &[u8], error: Error) {
-    if resumes {
-        program_files::complain(rt, b"resume: ", what, error);
-    } else {
-        program_files::complain(rt, b"replay: ", what, error);
-    }
+    program_files::complain(rt, speaker(resumes), what, error);
 }
 
 // Opens the file whose name is argument i, as `program_files::opened` does.
@@ -32,13 +30,10 @@ pub fn opened<R: Runtime>(
     called: &[u8],
     path: &mut [u8],
     write: bool,
-) -> File<R::File>
-    ensures { IsPrefixLen result.length path.new }
+) -> Result<(R::File, usize)>
+    ensures { IfOk result (λ opened. IsPrefixLen opened.1 path.new) }
 {
-    if resumes {
-        return program_files::opened(rt, b"resume: ", i, called, path, write);
-    }
-    program_files::opened(rt, b"replay: ", i, called, path, write)
+    program_files::opened(rt, speaker(resumes), i, called, path, write)
 }
 
 // Says that a file of replies lacks some.

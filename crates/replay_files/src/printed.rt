@@ -1,4 +1,5 @@
 // What is written to standard output.
+use crate::files::speaker;
 use keeper_bench::Bench;
 use program_files::{say, within};
 use replay_pieces::lines;
@@ -8,10 +9,7 @@ use std::rt::Runtime;
 
 // Writes a line to standard output and answers whether it could, and says so where not.
 pub fn line(rt: &impl Runtime, resumes: bool, line: Line) -> bool {
-    if resumes {
-        return program_files::print(rt, b"resume: ", line);
-    }
-    program_files::print(rt, b"replay: ", line)
+    program_files::print(rt, speaker(resumes), line)
 }
 
 // Writes a line to standard error.
@@ -35,27 +33,19 @@ pub fn unsaved(rt: &impl Eprint, resumes: bool, number: u8) {
 fn devices(rt: &impl Runtime, resumes: bool, bench: Bench) -> bool {
     let bytes = bench.bytes;
     let n = memory::devices(&bytes);
-    let mut p: u8 = 0;
-    while p < n {
+    for p in 0..n {
         if !line(rt, resumes, lines::device(bench, p)) {
             return false;
         }
-        p += 1;
     }
     true
 }
 
 // The number of replies, and the state that a log leaves.
 pub fn state(rt: &impl Runtime, resumes: bool, progress: Progress) -> bool {
-    if !line(rt, resumes, lines::replies(progress)) {
-        return false;
-    }
     let bench = progress.bench;
-    if !line(rt, resumes, lines::carried(bench)) {
-        return false;
-    }
-    if !line(rt, resumes, lines::callback(bench)) {
-        return false;
-    }
-    devices(rt, resumes, bench)
+    line(rt, resumes, lines::replies(progress))
+        && line(rt, resumes, lines::carried(bench))
+        && line(rt, resumes, lines::callback(bench))
+        && devices(rt, resumes, bench)
 }

@@ -80,16 +80,14 @@ fn made<R: Runtime>(
     ensures { Went bench result }
 {
     let mut path = io::buffer();
-    let file = files::opened(rt, task.resumes, 3, b"REPLIES", &mut path, true);
-    let length = file.length;
-    let Ok(out) = file.file else {
+    let Ok((out, length)) = files::opened(rt, task.resumes, 3, b"REPLIES", &mut path, true) else {
         return failed(bench);
     };
     let ends = Ends {
         resumes: task.resumes,
-        log: log,
+        log,
         size: task.size,
-        out: out,
+        out,
     };
     poured(rt, first, bench, ends, log_path, &path[..length])
 }
@@ -105,12 +103,13 @@ fn opened<R: Runtime>(
     ensures { Went bench result }
 {
     let mut bytes = io::buffer();
-    let first = program_files::fill(&mut log, &mut bytes, task.size);
-    if let Some(error) = first.failed {
-        files::complain(rt, task.resumes, log_path, error);
-        return failed(bench);
-    }
-    let count = first.count;
+    let count = match program_files::fill(&mut log, &mut bytes, task.size) {
+        Ok(count) => count,
+        Err(error) => {
+            files::complain(rt, task.resumes, log_path, error);
+            return failed(bench);
+        }
+    };
     made(rt, &bytes[..count], bench, log, task, log_path)
 }
 
@@ -119,9 +118,7 @@ pub fn named<R: Runtime>(rt: &R, bench: Bench, task: Task) -> Session
     ensures { Went bench result }
 {
     let mut path = io::buffer();
-    let file = files::opened(rt, task.resumes, 2, b"LOG", &mut path, false);
-    let length = file.length;
-    let Ok(log) = file.file else {
+    let Ok((log, length)) = files::opened(rt, task.resumes, 2, b"LOG", &mut path, false) else {
         return failed(bench);
     };
     opened(rt, log, &path[..length], bench, task)

@@ -6,14 +6,14 @@ ghost use Rattle.model.specs.State.{load_of};
 ghost use Rattle.replay_pieces.specs.Poured.{Replayed};
 ghost use Rattle.replay_session.specs.Sessions.{Ran, Judged};
 
-use program_end::{End, status};
-use replay_files::arguments::{Asked, Task};
+use program_end::End;
+use replay_files::arguments::Task;
 use replay_files::{arguments, printed};
 use replay_pieces::turn::Progress;
 use std::rt::Runtime;
 
 // Tells that the table is refused.
-fn refuse(rt: &impl Runtime, answer: table::Answer) -> End
+fn refuse(rt: &impl Runtime, answer: Result<(), table::Refusal>) -> End
     ensures { (result ≡ End.Refused) ⊎ (result ≡ End.Failed) }
 {
     if printed::line(rt, false, replay_report::refused(answer)) {
@@ -49,7 +49,7 @@ fn replay(rt: &impl Runtime, table: &[u8], task: Task) -> End
     let loaded = keeper::load(table);
     let answer = loaded.answer;
     let bench = loaded.bench;
-    let table::Answer::Taken = answer else {
+    let Ok(()) = answer else {
         return refuse(rt, answer);
     };
     let session = replay_log::named(rt, bench, task);
@@ -69,18 +69,16 @@ fn replay(rt: &impl Runtime, table: &[u8], task: Task) -> End
 // longest that is taken has 519, and the tests before the length read the first seven bytes.
 fn begin(rt: &impl Runtime, task: Task) -> End {
     let mut bytes = io::buffer();
-    let read = program_files::first_bytes(rt, b"replay: ", b"TABLE", &mut bytes);
-    if read.failed.is_some() {
+    let Ok(count) = program_files::first_bytes(rt, b"replay: ", b"TABLE", &mut bytes) else {
         return End::Failed;
-    }
-    let count = read.count;
+    };
     replay(rt, &bytes[..count], task)
 }
 
 // The program, and its exit status.
 pub fn run(rt: &impl Runtime) -> u8 {
-    let Asked::Given(task) = arguments::read(rt, false) else {
-        return status(End::Wrong);
+    let Some(task) = arguments::read(rt, false) else {
+        return u8::from(End::Wrong);
     };
-    status(begin(rt, task))
+    u8::from(begin(rt, task))
 }

@@ -113,12 +113,13 @@ fn next<F: Read + Write>(
 {
     let mut bytes = io::buffer();
     let size = ends.size;
-    let read = program_files::fill(&mut ends.log, &mut bytes, size);
-    if let Some(error) = read.failed {
-        files::complain(rt, ends.resumes, log_path, error);
-        return ended(before, End::Failed);
-    }
-    let count = read.count;
+    let count = match program_files::fill(&mut ends.log, &mut bytes, size) {
+        Ok(count) => count,
+        Err(error) => {
+            files::complain(rt, ends.resumes, log_path, error);
+            return ended(before, End::Failed);
+        }
+    };
     if count == 0 {
         return ended(before, End::Done);
     }

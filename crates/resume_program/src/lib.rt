@@ -6,8 +6,8 @@ ghost use Rattle.saved_form.specs.Restoring.{restore_of};
 ghost use Rattle.replay_session.specs.Sessions.{Ran, Judged};
 ghost use Rattle.resume_program.specs.Resumed.{Resumed};
 
-use program_end::{End, status};
-use replay_files::arguments::{Asked, Task};
+use program_end::End;
+use replay_files::arguments::Task;
 use replay_files::{arguments, printed};
 use replay_pieces::turn::Progress;
 use std::rt::Runtime;
@@ -70,18 +70,16 @@ fn resume(rt: &impl Runtime, state: &[u8], task: Task) -> End
 // than a saved state, and the tests before the length read the first five bytes.
 fn begin(rt: &impl Runtime, task: Task) -> End {
     let mut bytes = io::large_buffer();
-    let read = program_files::first_bytes(rt, b"resume: ", b"STATE", &mut bytes);
-    if read.failed.is_some() {
+    let Ok(count) = program_files::first_bytes(rt, b"resume: ", b"STATE", &mut bytes) else {
         return End::Failed;
-    }
-    let count = read.count;
+    };
     resume(rt, &bytes[..count], task)
 }
 
 // The program, and its exit status.
 pub fn run(rt: &impl Runtime) -> u8 {
-    let Asked::Given(task) = arguments::read(rt, true) else {
-        return status(End::Wrong);
+    let Some(task) = arguments::read(rt, true) else {
+        return u8::from(End::Wrong);
     };
-    status(begin(rt, task))
+    u8::from(begin(rt, task))
 }

@@ -18,7 +18,8 @@ use Rattle.memory.specs.Layout.{BYTES, WORDS}
 use Rattle.memory.proofs.Inverse.{shaped_in}
 use Rattle.keeper_bench.specs.declared.Bench.{Bench}
 use Rattle.keeper_bench.specs.Translate.{state_of}
-use Rattle.saved_answer.specs.declared.Saving.{Saving}
+use Rattle.std.specs.Prelude.{Result, ⊤}
+use Rattle.saved_answer.specs.declared.SaveRefusal.{SaveRefusal}
 use Rattle.saved_answer.specs.Answers.{saving_of}
 use Rattle.saved_form.specs.Form.{FORM, form}
 use Rattle.saved_form.specs.Saving.{Saved, save_number, save_of}
@@ -39,7 +40,7 @@ by_test true s buffer e z = e
 by_test false s buffer e z = let n = unsound_number s buffer e in absurd (omega arith)
 
 -- ---- a saving
-module _ (b : Bench) (buffer : List ℕ) (long : length buffer ≡ FORM) (r : Saving) {after : List ℕ} (met : saved_of r after ≡ save_of (state_of b) buffer) where
+module _ (b : Bench) (buffer : List ℕ) (long : length buffer ≡ FORM) (r : Result ⊤ SaveRefusal) {after : List ℕ} (met : saved_of r after ≡ save_of (state_of b) buffer) where
   number : saving_of r ≡ save_number (state_of b) buffer
   unfolding save_of
   number = ap (λ (w : Saved). w.number) met

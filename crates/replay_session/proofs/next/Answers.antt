@@ -3,8 +3,8 @@ use Rattle.replay_session.proofs.Sessions.{ran_done, ran_failed, stepped_none, s
 use Rattle.replay_session.proofs.next.Goals as goal
 
 -- the read fails
-pub returns-in-Some : goal.returns-in-Some
-returns-in-Some g c = let ended = c.ended.ensures in stepped_none ended.0 (ran_failed ended.1) ended.2
+pub returns-in-Err : goal.returns-in-Err
+returns-in-Err g c = let ended = c.ended.ensures in stepped_none ended.0 (ran_failed ended.1) ended.2
 
 -- the log ends
 pub returns-then-count-eq0 : goal.returns-then-count-eq0
