@@ -1,4 +1,5 @@
+-- What the proofs of the functions cite.
 pub mod Reading
 pub mod Judging
-pub mod Examples
 pub mod Empty
+pub mod Examples

@@ -1,11 +1,16 @@
-// What a line says.
+// What a line says, and what can be wrong with it.
 
-// Nothing (it is empty, or a comment), a part (parent, flags), a link (consumer, supplier, flags), a number over 255, or anything else.
-#[derive(Clone, Copy)]
+// Nothing (the line is empty, or a comment), a part (parent, flags), or a link (consumer, supplier, flags).
+#[derive(Clone, Copy, Debug, PartialEq, Eq)]
 pub enum Entry {
     Nothing,
     Part(u8, u8),
     Link(u8, u8, u8),
+}
+
+// A number over 255, or anything else that is no entry.
+#[derive(Clone, Copy, Debug, PartialEq, Eq)]
+pub enum Fault {
     Large,
     Wrong,
 }

@@ -2,152 +2,90 @@
 #![tactic(auto)]
 
 ghost use Rattle.std.specs.Prelude.{◌≡◌};
-ghost use Rattle.replay_text.specs.Sizes.{is_digit};
-ghost use Rattle.list_lines.specs.Numbers.{same, capped, number_in, parent_in, Most};
-ghost use Rattle.list_lines.specs.Lines.{part_of, link_of, part_in, link_in, entry_in};
+ghost use Rattle.list_lines.specs.Numbers.{number_in, parent_in, both};
+ghost use Rattle.list_lines.specs.Lines.{part_in, link_in, entry_in};
 
-use basics::both;
-use entries::Entry;
+use entries::{Entry, Fault};
 use list_words::word;
 use model::NONE;
 
 pub mod entries;
 
-// What stands for a number over 255.
-const OVER: u16 = 256;
-
-// What stands for a word that is no number.
-const UNREAD: u16 = 257;
-
-// Whether a word is this text.
-fn same(word: &[u8], text: &[u8]) -> bool
-    ensures { result ≡ same word.now text.now }
-{
-    check::same(word, text)
-}
-
-// Whether a byte is a decimal digit.
-fn is_digit(b: u8) -> bool
-    ensures { result ≡ is_digit b }
-{
-    both(b'0' <= b, b <= b'9')
-}
-
-// A number up to 255, or OVER.
-fn capped(x: u16) -> u16
-    ensures { result ≡ capped x }
-{
-    if x > 255 {
-        return OVER;
-    }
-    x
-}
-
 // The number of a word.
-fn number(word: &[u8]) -> u16
+fn number(word: &[u8]) -> Result<u8, Fault>
     ensures { result ≡ number_in word.now }
 {
-    if word.len() == 0 {
-        return UNREAD;
+    if word.is_empty() {
+        return Err(Fault::Wrong);
     }
-    let mut value: u16 = 0;
-    let mut i: usize = 0;
-    while i < word.len() {
-        let b = word[i];
-        if !is_digit(b) {
-            return UNREAD;
-        }
-        value = capped(10 * value + (b - b'0') as u16);
-        i += 1;
-    }
-    value
+    let Some(value) = replay_text::size::number(word, 256) else {
+        return Err(Fault::Wrong);
+    };
+    let Ok(value) = u8::try_from(value) else {
+        return Err(Fault::Large);
+    };
+    Ok(value)
 }
 
 // The number of a word that names a parent.
-fn parent(word: &[u8]) -> u16
+fn parent(word: &[u8]) -> Result<u8, Fault>
     ensures { result ≡ parent_in word.now }
 {
-    if same(word, b"none") {
-        return NONE as u16;
+    if word == b"none".as_slice() {
+        return Ok(NONE);
     }
     number(word)
 }
 
-// The greater of two numbers.
-fn most(a: u16, b: u16) -> u16
-    ensures { Most a b result }
+// Both of two, or the worse of their faults.
+fn both<A: Copy, B: Copy>(a: Result<A, Fault>, b: Result<B, Fault>) -> Result<(A, B), Fault>
+    ensures { result ≡ both a b }
 {
-    if a <= b {
-        return b;
+    match (a, b) {
+        (Ok(a), Ok(b)) => Ok((a, b)),
+        (Err(Fault::Large), Err(fault)) => Err(fault),
+        (Err(fault), _) => Err(fault),
+        (Ok(_), Err(fault)) => Err(fault),
     }
-    a
-}
-
-// The part of these numbers.
-fn part_of(parent: u16, flags: u16) -> Entry
-    ensures { result ≡ part_of parent flags }
-{
-    let worst = most(parent, flags);
-    if worst > OVER {
-        return Entry::Wrong;
-    }
-    if worst > 255 {
-        return Entry::Large;
-    }
-    Entry::Part(parent as u8, flags as u8)
-}
-
-// The link of these numbers.
-fn link_of(consumer: u16, supplier: u16, flags: u16) -> Entry
-    ensures { result ≡ link_of consumer supplier flags }
-{
-    let worst = most(consumer, most(supplier, flags));
-    if worst > OVER {
-        return Entry::Wrong;
-    }
-    if worst > 255 {
-        return Entry::Large;
-    }
-    Entry::Link(consumer as u8, supplier as u8, flags as u8)
 }
 
 // What a line says that starts with the word of a part.
-fn part(line: &[u8]) -> Entry
+fn part(line: &[u8]) -> Result<Entry, Fault>
     ensures { result ≡ part_in line.now }
 {
-    if word(line, 3).len() != 0 {
-        return Entry::Wrong;
+    if !word(line, 3).is_empty() {
+        return Err(Fault::Wrong);
     }
-    part_of(parent(word(line, 1)), number(word(line, 2)))
+    let (parent, flags) = both(parent(word(line, 1)), number(word(line, 2)))?;
+    Ok(Entry::Part(parent, flags))
 }
 
 // What a line says that starts with the word of a link.
-fn link(line: &[u8]) -> Entry
+fn link(line: &[u8]) -> Result<Entry, Fault>
     ensures { result ≡ link_in line.now }
 {
-    if word(line, 4).len() != 0 {
-        return Entry::Wrong;
+    if !word(line, 4).is_empty() {
+        return Err(Fault::Wrong);
     }
-    link_of(
-        number(word(line, 1)),
-        number(word(line, 2)),
-        number(word(line, 3)),
-    )
+    let consumer = number(word(line, 1));
+    let rest = both(number(word(line, 2)), number(word(line, 3)));
+    let (consumer, (supplier, flags)) = both(consumer, rest)?;
+    Ok(Entry::Link(consumer, supplier, flags))
 }
 
 // What a line says.
-pub fn entry(line: &[u8]) -> Entry
+pub fn entry(line: &[u8]) -> Result<Entry, Fault>
     ensures { result ≡ entry_in line.now }
 {
     let first = word(line, 0);
-    if first.len() == 0 {
-        return Entry::Nothing;
+    if first.is_empty() {
+        return Ok(Entry::Nothing);
     }
-    if same(first, b"part") {
+    if first == b"part".as_slice() {
         return part(line);
     }
-    if same(first, b"link") {
+    if first == b"link".as_slice() {
         return link(line);
     }
-    Entry::Wrong
+    Err(Fault::Wrong)
 }

@@ -1,43 +1,26 @@
 -- What is printed of a part or a link, without its end of line, is read as that part or link. Assumes nothing.
-use mathlib.Core.Path.{◌≡◌, refl, sym}
-use mathlib.Core.Bool.{Bool, true, false}
+use mathlib.Core.Path.{◌≡◌, refl}
+use mathlib.Core.Bool.{true}
 use mathlib.Core.List.{List, [], ◌∷◌, ◌++◌, append-nil, append_assoc}
+use Rattle.std.specs.Prelude.{Ok}
 use Prim.Native.Nat.{ℕ, ◌<◌}
-use native.Mathlib.Omega.{arith}
-use lib.Dec.{leb}
 use lib.ListN.{get_or}
-use Rattle.model.specs.Logic.{when◌then◌else◌, ◌and◌, ◌or◌}
+use Rattle.model.specs.Logic.{when◌then◌else◌}
 use Rattle.replay_text.specs.Text.{ascii, decimal}
-use Rattle.list_words.specs.Words.{is_blank, stops, word_in}
-use Rattle.list_lines.specs.Numbers.{same, most}
-use Rattle.list_lines.specs.Lines.{judged, part_of, link_of, part_in, link_in, entry_in}
-use Rattle.list_lines.specs.declared.entries.Entry.{Entry}
+use Rattle.list_words.specs.Words.{is_blank, word_in}
+use Rattle.list_lines.specs.Lines.{part_in, link_in, entry_in}
 use Rattle.list_lines.specs.declared.entries.Entry.TheVariants.{Part, Link}
-use Rattle.list_lines.proofs.Judging.{judged_good}
 use Rattle.list_print.specs.Lines.{parent_text, part_words, link_words}
 use Rattle.list_print.proofs.Spaced.{uncut, solid, all_solid, spaced, words_back}
 use Rattle.list_print.proofs.Numbers.{number_told_lem, parent_told}
 
--- ---- numbers below 256 make an entry
-picked : (b : Bool) (x y : ℕ) → x < 256 → y < 256 → (when b then y else x) < 256
-unfolding when◌then◌else◌
-picked true x y h g = g
-picked false x y h g = h
-
-most_below : (a b : ℕ) → a < 256 → b < 256 → most a b < 256
-unfolding most
-most_below a b h g = picked (leb a b) a b h g
-
-good : (m : ℕ) (e : Entry) → m < 256 → judged m e ≡ e
-good m e h = sym (judged_good e refl (omega arith))
-
 -- ---- the words before the numbers
 part_first : solid (ascii "part") ≡ true
-unfolding solid uncut stops is_blank ascii
+unfolding solid uncut is_blank ascii
 part_first = refl
 
 link_first : solid (ascii "link") ≡ true
-unfolding solid uncut stops is_blank ascii
+unfolding solid uncut is_blank ascii
 link_first = refl
 
 -- ---- a part
@@ -56,11 +39,10 @@ module _ (parent flags : ℕ) (p : parent < 256) (f : flags < 256) where
   part_word : (k : ℕ) → word_in (part_words parent flags) k ≡ get_or (ascii "part" ∷ part_list) k []
   part_word k = rw part_spaced (words_back (ascii "part") part_list k part_solid)
 
-  pub part_back : entry_in (part_words parent flags) ≡ Part parent flags
-  unfolding part_list entry_in part_in part_of ascii same when◌then◌else◌
+  pub part_back : entry_in (part_words parent flags) ≡ Ok (Part parent flags)
+  unfolding part_list entry_in part_in ascii when◌then◌else◌
   part_back =
       rw (part_word 0, part_word 3, part_word 1, part_word 2, (parent_told parent p).back, (number_told_lem flags f).back)
-      (good (most parent flags) (Part parent flags) (most_below parent flags p f))
 
 -- ---- a link
 module _ (consumer supplier flags : ℕ) (c : consumer < 256) (s : supplier < 256) (f : flags < 256) where
@@ -78,10 +60,8 @@ module _ (consumer supplier flags : ℕ) (c : consumer < 256) (s : supplier < 25
   link_word : (k : ℕ) → word_in (link_words consumer supplier flags) k ≡ get_or (ascii "link" ∷ link_list) k []
   link_word k = rw link_spaced (words_back (ascii "link") link_list k link_solid)
 
-  pub link_back : entry_in (link_words consumer supplier flags) ≡ Link consumer supplier flags
-  unfolding link_list entry_in link_in link_of ascii same when◌then◌else◌
+  pub link_back : entry_in (link_words consumer supplier flags) ≡ Ok (Link consumer supplier flags)
+  unfolding link_list entry_in link_in ascii when◌then◌else◌
   link_back =
-      let rest = most_below supplier flags s f in
       rw (link_word 0, link_word 4, link_word 1, link_word 2, link_word 3)
-      (rw ((number_told_lem consumer c).back, (number_told_lem supplier s).back, (number_told_lem flags f).back)
-      (good (most consumer (most supplier flags)) (Link consumer supplier flags) (most_below consumer (most supplier flags) c rest)))
+      (rw ((number_told_lem consumer c).back, (number_told_lem supplier s).back, (number_told_lem flags f).back))

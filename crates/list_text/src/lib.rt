@@ -1,11 +1,13 @@
 // The text of a list, in any number of lines: its parts, its links, and the lines in which they stand.
 #![tactic(auto)]
 
-ghost use Rattle.std.specs.Prelude.{◌≡◌, ◌+◌, ◌≤◌, ◌<◌, length, set};
+ghost use Rattle.std.specs.Prelude.{◌≡◌, ◌+◌, ◌≤◌, ◌<◌, not, eqb, length, set};
+ghost use Rattle.std.specs.List.{prefix_len};
+ghost use Rattle.std.proofs.lemmas.List.Edits.{sets};
 ghost use Rattle.list_text.specs.Texts.{is_of, fault_in, Gathered, line_number};
-ghost use Rattle.list_text.specs.Places.{Stopped, Read, Stored};
+ghost use Rattle.list_text.specs.Places.{Read, Stored};
 
-use list_lines::entries::Entry;
+use list_lines::entries::{Entry, Fault};
 
 // The byte between two lines.
 const LINE_FEED: u8 = 10;
@@ -13,34 +15,26 @@ const LINE_FEED: u8 = 10;
 // The number of the first line.
 const FIRST: usize = 1;
 
-// The first line that is none of a list's: a number over 255 in it, or another sort of line; with its number.
-#[derive(Clone, Copy)]
-pub enum Fault {
-    Nothing,
-    Large(usize),
-    Wrong(usize),
+// A line that is none of a list's: what is wrong with it, and its number.
+#[derive(Clone, Copy, Debug, PartialEq, Eq)]
+pub struct Faulty {
+    pub fault: Fault,
+    pub line: usize,
 }
 
-// A line: what it stands for, and where the line after it starts.
+// What a line says, and where the line after it starts.
 #[derive(Clone, Copy)]
 struct Line {
-    entry: Entry,
+    entry: Result<Entry, Fault>,
     next: usize,
 }
 
-// Where the line that starts at a place stops: at its line feed, or at the end of the text.
-fn stop_of(text: &[u8], start: usize) -> usize
-    requires { start ≤ length text.now }
-    ensures { Stopped text.now start result }
+// How many bytes stand before the first line feed of a text; all of them where it has none.
+fn line_length(text: &[u8]) -> usize
+    ensures count { result ≡ prefix_len (λ b. not (eqb b 10)) text.now }
+    ensures inside { result ≤ length text.now }
 {
-    let mut i = start;
-    while i < text.len() {
-        if text[i] == LINE_FEED {
-            return i;
-        }
-        i += 1;
-    }
-    text.len()
+    text.iter().take_while(|b| **b != LINE_FEED).count()
 }
 
 // The line that starts at a place.
@@ -48,36 +42,31 @@ fn line_at(text: &[u8], start: usize) -> Line
     requires { start ≤ length text.now }
     ensures { Read text.now start result.entry result.next }
 {
-    let stop = stop_of(text, start);
-    let entry = list_lines::entry(&text[start..stop]);
+    let stop = start + line_length(&text[start..]);
     Line {
-        entry: entry,
+        entry: list_lines::entry(&text[start..stop]),
         next: stop + 1,
     }
 }
 
-// The first line that is none of a list's.
-pub fn fault_in(text: &[u8]) -> Fault
+// Whether each line is one of a list's; the first that is none.
+pub fn fault_in(text: &[u8]) -> Result<(), Faulty>
     ensures { result ≡ fault_in text.now }
 {
     let mut start: usize = 0;
     let mut number = FIRST;
     while start <= text.len() {
         let line = line_at(text, start);
-        let entry = line.entry;
-        match entry {
-            Entry::Large => {
-                return Fault::Large(number);
-            }
-            Entry::Wrong => {
-                return Fault::Wrong(number);
-            }
-            _ => {}
+        if let Err(fault) = line.entry {
+            return Err(Faulty {
+                fault: fault,
+                line: number,
+            });
         }
         start = line.next;
         number += 1;
     }
-    Fault::Nothing
+    Ok(())
 }
 
 // A byte stored at a place of a buffer, if there is room.
@@ -89,37 +78,42 @@ fn put(out: &mut [u8], at: usize, byte: u8)
     }
 }
 
-// Two bytes stored from a place on, as far as there is room.
-fn put_two(out: &mut [u8], at: usize, a: u8, b: u8)
-    requires { at + 1 < 18446744073709551616 }
-    ensures { out.new ≡ set (set out.old at a) (at + 1) b }
+// Bytes stored from a place on, as far as there is room; the place after them.
+fn put_bytes(out: &mut [u8], at: usize, bytes: &[u8]) -> usize
+    requires { at + length bytes.now < 18446744073709551616 }
+    ensures place { result ≡ at + length bytes.now }
+    ensures buffer { out.new ≡ sets out.old at bytes.now }
 {
-    put(out, at, a);
-    put(out, at + 1, b);
+    for (i, byte) in bytes.iter().enumerate() {
+        put(out, at + i, *byte);
+    }
+    at + bytes.len()
 }
 
-// The bytes of an entry of a sort stored from a place on, as far as there is room; the place after them.
-fn put_entry(out: &mut [u8], at: usize, link: bool, entry: Entry) -> usize
+// The bytes of a line of a sort stored from a place on, as far as there is room; the place after them.
+fn put_entry(out: &mut [u8], at: usize, link: bool, entry: Result<Entry, Fault>) -> usize
     requires { at + 3 < 18446744073709551616 }
     ensures { Stored link entry at out.old result out.new }
 {
+    let Ok(entry) = entry else {
+        return at;
+    };
     match entry {
+        Entry::Nothing => at,
         Entry::Part(a, b) => {
-            if !link {
-                put_two(out, at, a, b);
-                return at + 2;
+            if link {
+                at
+            } else {
+                put_bytes(out, at, &[a, b])
             }
-            at
         }
         Entry::Link(a, b, c) => {
             if link {
-                put_two(out, at, a, b);
-                put(out, at + 2, c);
-                return at + 3;
+                put_bytes(out, at, &[a, b, c])
+            } else {
+                at
             }
-            at
         }
-        _ => at,
     }
 }
 
@@ -131,21 +125,23 @@ pub fn gather(text: &[u8], link: bool, out: &mut [u8]) -> usize
     let mut start: usize = 0;
     while start <= text.len() {
         let line = line_at(text, start);
-        let entry = line.entry;
-        at = put_entry(out, at, link, entry);
+        at = put_entry(out, at, link, line.entry);
         start = line.next;
     }
     at
 }
 
-// An entry is of a sort.
-fn is_of(link: bool, entry: Entry) -> bool
+// A line is of a sort.
+fn is_of(link: bool, entry: Result<Entry, Fault>) -> bool
     ensures { result ≡ is_of link entry }
 {
+    let Ok(entry) = entry else {
+        return false;
+    };
     match entry {
+        Entry::Nothing => false,
         Entry::Part(_, _) => !link,
         Entry::Link(_, _, _) => link,
-        _ => false,
     }
 }
 
@@ -158,8 +154,7 @@ pub fn line_of(text: &[u8], link: bool, k: usize) -> usize
     let mut number = FIRST;
     while start <= text.len() {
         let line = line_at(text, start);
-        let entry = line.entry;
-        if is_of(link, entry) {
+        if is_of(link, line.entry) {
             if ahead == 0 {
                 return number;
             }

@@ -1,40 +1,33 @@
 -- The words of a line. Assumes nothing.
-use Rattle.std.specs.Prelude.{◌≡◌, Bool, not, List, [], ◌∷◌, ℕ, zero, suc, ◌≤◌, eqb, length, take, drop}
-use Rattle.model.specs.Logic.{when◌then◌else◌, ◌or◌}
-use Rattle.list_words.specs.declared.Cut.{Cut}
-use Rattle.list_words.specs.declared.Cut.TheVariants.{Comment, Blank, Word}
+use Rattle.std.specs.Prelude.{Bool, not, List, ℕ, zero, suc, eqb, take, drop}
+use Rattle.std.specs.List.{prefix_len}
+use Rattle.model.specs.Logic.{◌or◌}
+
+-- a byte before a comment: any but the # that it starts with
+abbrev pub is_code : ℕ → Bool
+is_code b = not (eqb b 35)
 
 -- space, tab, carriage return
 unfoldable pub is_blank : ℕ → Bool
 is_blank b = eqb b 32 or eqb b 9 or eqb b 13
 
--- a byte at which a text is cut: the # of a comment, a blank, any byte that is none
-unfoldable pub stops : Cut → ℕ → Bool
-stops Comment b = eqb b 35
-stops Blank b = is_blank b
-stops Word b = not (is_blank b)
+-- a byte of a word: any that is no blank
+abbrev pub is_letter : ℕ → Bool
+is_letter b = not (is_blank b)
 
--- the bytes before the first at which the text is cut
-unfoldable pub before : Cut → List ℕ → List ℕ
-before c [] = []
-before c (b ∷ t) = when stops c b then [] else b ∷ before c t
+-- the bytes before the first that fails the test
+abbrev pub before : (ℕ → Bool) → List ℕ → List ℕ
+before p t = take (prefix_len p t) t
 
 -- the bytes from that one on
-unfoldable pub from : Cut → List ℕ → List ℕ
-from c [] = []
-from c (b ∷ t) = when stops c b then b ∷ t else from c t
+abbrev pub from : (ℕ → Bool) → List ℕ → List ℕ
+from p t = drop (prefix_len p t) t
 
 -- word k of a text, from 0; empty past the last word
 unfoldable pub word_at : List ℕ → ℕ → List ℕ
-word_at t zero = before Blank (from Word t)
-word_at t (suc k) = word_at (from Blank (from Word t)) k
+word_at t zero = before is_letter (from is_blank t)
+word_at t (suc k) = word_at (from is_letter (from is_blank t)) k
 
 -- word k of a line; a comment is no part of it
 unfoldable pub word_in : List ℕ → ℕ → List ℕ
-word_in line k = word_at (before Comment line) k
-
--- n bytes stand before the cut
-pub record Scanned (c : Cut) (t : List ℕ) (n : ℕ) : Type 0 where
-  pub inside : n ≤ length t
-  pub front : take n t ≡ before c t
-  pub rest : drop n t ≡ from c t
+word_in line k = word_at (before is_code line) k

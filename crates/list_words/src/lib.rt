@@ -1,81 +1,57 @@
 // The words of a line of a list.
 #![tactic(auto)]
 
-ghost use Rattle.std.specs.Prelude.{◌≡◌};
-ghost use Rattle.list_words.specs.Words.{is_blank, stops, Scanned, before, from, word_in};
-
-// Where a text is cut: at the first byte of a comment, at the first blank, at the first byte of a word.
-#[derive(Clone, Copy)]
-pub enum Cut {
-    Comment,
-    Blank,
-    Word,
-}
+ghost use Rattle.std.specs.Prelude.{◌≡◌, ◌≤◌, length};
+ghost use Rattle.std.specs.List.{prefix_len};
+ghost use Rattle.list_words.specs.Words.{is_code, is_blank, is_letter, before, from, word_in};
 
 // A byte that stands between words: space, tab, carriage return.
-fn blank(b: u8) -> bool
+fn is_blank(b: u8) -> bool
     ensures { result ≡ is_blank b }
 {
-    if b == b' ' {
-        return true;
-    }
-    if b == b'\t' {
-        return true;
-    }
-    b == b'\r'
+    (b == b' ') | ((b == b'\t') | (b == b'\r'))
 }
 
-// A byte at which the text is cut.
-fn stops(cut: Cut, b: u8) -> bool
-    ensures { result ≡ stops cut b }
+// How many bytes of a line stand before its comment.
+fn code(line: &[u8]) -> usize
+    ensures count { result ≡ prefix_len is_code line.now }
+    ensures inside { result ≤ length line.now }
 {
-    match cut {
-        Cut::Comment => b == b'#',
-        Cut::Blank => blank(b),
-        Cut::Word => !blank(b),
-    }
+    line.iter().take_while(|b| **b != b'#').count()
 }
 
-// How many bytes stand before the cut.
-fn scan(text: &[u8], cut: Cut) -> usize
-    ensures { Scanned cut text.now result }
+// How many blanks stand at the front of a text.
+fn blanks(text: &[u8]) -> usize
+    ensures count { result ≡ prefix_len is_blank text.now }
+    ensures inside { result ≤ length text.now }
 {
-    let mut i: usize = 0;
-    while i < text.len() {
-        if stops(cut, text[i]) {
-            return i;
-        }
-        i += 1;
-    }
-    i
+    text.iter().take_while(|b| is_blank(**b)).count()
 }
 
-// The text before the cut.
-fn before(text: &[u8], cut: Cut) -> &[u8]
-    ensures { result.now ≡ before cut text.now }
+// How many bytes of a word stand at the front of a text.
+fn letters(text: &[u8]) -> usize
+    ensures count { result ≡ prefix_len is_letter text.now }
+    ensures inside { result ≤ length text.now }
 {
-    let n = scan(text, cut);
-    &text[..n]
+    text.iter().take_while(|b| !is_blank(**b)).count()
 }
 
-// The text from the cut on.
-fn from(text: &[u8], cut: Cut) -> &[u8]
-    ensures { result.now ≡ from cut text.now }
+// The first word of a text, and what follows it.
+fn first(text: &[u8]) -> (&[u8], &[u8])
+    ensures word { result.0.now ≡ before is_letter (from is_blank text.now) }
+    ensures rest { result.1.now ≡ from is_letter (from is_blank text.now) }
 {
-    let n = scan(text, cut);
-    &text[n..]
+    let here = &text[blanks(text)..];
+    here.split_at(letters(here))
 }
 
 // Word k of a line, from 0; empty past the last word.
 pub fn word(line: &[u8], k: usize) -> &[u8]
     ensures { result.now ≡ word_in line.now k }
 {
-    let mut rest = before(line, Cut::Comment);
-    let mut left = k;
-    while 0 < left {
-        let here = from(rest, Cut::Word);
-        rest = from(here, Cut::Blank);
-        left -= 1;
+    let mut rest = &line[..code(line)];
+    for i in 0..k {
+        rest = first(rest).1;
     }
-    before(from(rest, Cut::Word), Cut::Blank)
+    first(rest).0
 }

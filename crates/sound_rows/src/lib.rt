@@ -63,11 +63,12 @@ pub fn same_words<'a>(words: &'a [u32; WORDS], page: usize, col: &'a [u32; ROWS]
 
 // ---- one device, one link
 
-// The link from c to s comes before the one from c2 to s2.
+// The link from c to s comes before the one from c2 to s2: the order of the pairs (c, s), without the branches of the library's `<`.
+#[tactic(auto, unfolding(model::specs::Table::before))]
 pub fn comes_before(c: u8, s: u8, c2: u8, s2: u8) -> bool
     ensures { result ≡ before c s c2 s2 }
 {
-    (c, s) < (c2, s2)
+    (c < c2) | ((c == c2) & (s < s2))
 }
 
 // What a device adds to the child count of its parent.

@@ -1,16 +1,14 @@
 -- `list_lines::parent` meets its contract: each exit is a case of the test. Assumes nothing.
-use mathlib.Core.Path.{sym, ◌∙◌}
-use Rattle.model.specs.Logic.{when◌then◌else◌}
 use Rattle.replay_text.specs.Text.{ascii}
-use Rattle.list_lines.specs.Numbers.{parent_in}
+use Rattle.list_lines.proofs.Judging.{parent_none, parent_number}
 use Rattle.list_lines.proofs.parent.Goals as goal
 
 -- no parent
-pub returns-then-same : goal.returns-then-same
-unfolding ascii parent_in when◌then◌else◌
-returns-then-same c = rw (sym c.same.ensures ∙ c.if-same.true)
+pub returns-then-eq : goal.returns-then-eq
+unfolding ascii
+returns-then-eq c = parent_none _ c.as_slice.ensures c.eq.ensures c.if-eq.true
 
 -- a number
 pub returns : goal.returns
-unfolding ascii parent_in when◌then◌else◌
-returns c = rw (sym c.same.ensures ∙ c.if-same.false) c.number.ensures
+unfolding ascii
+returns c = parent_number _ c.as_slice.ensures c.eq.ensures c.if-eq.false c.number.ensures

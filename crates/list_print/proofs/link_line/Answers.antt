@@ -10,7 +10,7 @@ unfolding ascii link_words link_text
 returns c =
     let args = c.args in
     let h0 = holds_start c.start.ensures in
-    let h1 = holds_field (ascii "link ") args.consumer h0 c.long8.ensures c.field-from.ensures (omega arith) in
-    let h2 = holds_field (ascii " ") args.supplier h1 c.long8-2.ensures c.field-to.ensures (omega arith) in
-    let h3 = holds_field (ascii " ") args.flags h2 c.long8-3.ensures c.field.ensures (omega arith) in
+    let h1 = holds_field (ascii "link ") args.consumer h0 c.from.ensures c.field-from.ensures (omega arith) in
+    let h2 = holds_field (ascii " ") args.supplier h1 c.from-2.ensures c.field-to.ensures (omega arith) in
+    let h3 = holds_field (ascii " ") args.flags h2 c.from-3.ensures c.field.ensures (omega arith) in
     (holds_word (ascii "\n") h3 c.word.ensures (omega arith)).line

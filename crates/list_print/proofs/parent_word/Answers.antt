@@ -13,4 +13,4 @@ returns-then-parent-eq-NONE c = rw c.if-parent-eq-NONE.true c.word.ensures
 -- a device
 pub returns : goal.returns
 unfolding ascii parent_text when◌then◌else◌
-returns c = rw (ne_eqb _ 255 c.if-parent-eq-NONE.false) (rw c.long8.ensures at c.number.ensures)
+returns c = rw (ne_eqb _ 255 c.if-parent-eq-NONE.false) (rw c.from.ensures at c.number.ensures)

@@ -12,5 +12,5 @@ returns c =
     let args = c.args in
     let h1 = holds_word (ascii "part ") (holds_start c.start.ensures) c.word.ensures (omega arith) in
     let h2 = holds_within (parent_text args.parent) 20 (parent_short args.parent) h1 c.parent_word-placed.ensures (omega arith) in
-    let h3 = holds_field (ascii " ") args.flags h2 c.long8.ensures c.field.ensures (omega arith) in
+    let h3 = holds_field (ascii " ") args.flags h2 c.from.ensures c.field.ensures (omega arith) in
     (holds_word (ascii "\n") h3 c.word-2.ensures (omega arith)).line

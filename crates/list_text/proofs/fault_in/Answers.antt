@@ -1,22 +1,16 @@
 -- `list_text::fault_in` meets its contract. The invariant: the lines that are left, counted on, have the fault that all lines have.
 -- Assumes nothing.
 use native.Mathlib.Omega.{arith}
-use Rattle.list_text.proofs.Numbering.{faulting_start, faulting_more, faulting_large, faulting_wrong, faulting_none, no_fault}
+use Rattle.list_text.proofs.Numbering.{faulting_start, faulting_more, faulting_here, faulting_none}
 use Rattle.list_text.proofs.fault_in.Goals as goal
 
--- a number over 255
-pub returns-in-Large : goal.returns-in-Large
-returns-in-Large c =
-    faulting_large c.loop-start.invariant c.line_at-line.ensures c.in-Large.is
-
--- another sort of line
-pub returns-in-Wrong : goal.returns-in-Wrong
-returns-in-Wrong c =
-    faulting_wrong c.loop-start.invariant c.line_at-line.ensures c.in-Wrong.is
+-- a faulty line
+pub returns-in-Err : goal.returns-in-Err
+returns-in-Err c = faulting_here c.loop-start.invariant c.line_at-line.ensures c.in-Err.is
 
 -- a line of a list
 pub loop-start-preserved : goal.loop-start-preserved
-loop-start-preserved c = faulting_more c.loop-start.invariant c.line_at-line.ensures (no_fault c.line_at-line.result.entry c.in_default.not-Large c.in_default.not-Wrong)
+loop-start-preserved c = faulting_more c.loop-start.invariant c.line_at-line.ensures c.in_default.is
 
 -- the end of the text
 pub returns : goal.returns

@@ -1,34 +1,29 @@
--- `list_text::put_entry` meets its contract, by the variant matched and the sort asked for. Assumes nothing.
-use Rattle.model.proofs.Logic.{not_iff, not_fails}
-use Rattle.list_text.proofs.Gathering.{part_passed, link_passed, none_passed, no_entry, part_stored, link_stored}
+-- `list_text::put_entry` meets its contract, by what the line says and the sort asked for. Assumes nothing.
+use Rattle.list_text.proofs.Sorts.{none_bytes, fault_bytes, part_bytes_lem, part_passed, link_bytes_lem, link_passed, stored_none, stored_some}
 use Rattle.list_text.proofs.put_entry.Goals as goal
 
--- a part
-pub returns-then-not-link : goal.returns-then-not-link
-returns-then-not-link c =
-    let given = c.args in
-    part_stored given.at given.out.now c.in-Part.is ((not_iff given.link).0 c.if-not-link.true-raw) c.put_two.ensures
+-- no line of a list
+pub returns-in_default : goal.returns-in_default
+returns-in_default c = stored_none _ _ _ _ (fault_bytes _ c.in_default.is)
 
--- a link
-pub returns-then-link : goal.returns-then-link
-returns-then-link c =
-    let given = c.args in
-    link_stored given.at given.out.now c.in-Link.is c.if-link.true c.put_two-then-link.ensures c.put.ensures
+pub returns-in-Nothing : goal.returns-in-Nothing
+returns-in-Nothing c = stored_none _ _ _ _ (none_bytes _ c.in-Ok.is c.in-Nothing.is)
 
 -- a part among links
-pub returns-else-not-link : goal.returns-else-not-link
-returns-else-not-link c =
-    let given = c.args in
-    part_passed given.at given.out.now c.in-Part.is ((not_fails given.link).0 c.if-not-link.false-raw)
+pub returns-then-link : goal.returns-then-link
+returns-then-link c = stored_none _ _ _ _ (part_passed c.in-Ok.is c.in-Part.is c.if-link.true)
 
--- a link among parts
+-- a part
 pub returns-else-link : goal.returns-else-link
 returns-else-link c =
-    let given = c.args in
-    link_passed given.at given.out.now c.in-Link.is c.if-link.false
+    stored_some _ _ _ _ (part_bytes_lem c.in-Ok.is c.in-Part.is c.if-link.false) c.put_bytes.ensures.place c.put_bytes.ensures.buffer
 
--- no entry
-pub returns-in_default : goal.returns-in_default
-returns-in_default c =
-    let given = c.args in
-    none_passed given.at given.out.now (no_entry given.entry c.in_default.not-Part c.in_default.not-Link)
+-- a link
+pub returns-then-link-2 : goal.returns-then-link-2
+returns-then-link-2 c =
+    stored_some _ _ _ _ (link_bytes_lem c.in-Ok.is c.in-Link.is c.if-link-2.true)
+    c.put_bytes-then-link-2.ensures.place c.put_bytes-then-link-2.ensures.buffer
+
+-- a link among parts
+pub returns-else-link-2 : goal.returns-else-link-2
+returns-else-link-2 c = stored_none _ _ _ _ (link_passed c.in-Ok.is c.in-Link.is c.if-link-2.false)

@@ -1,24 +1,18 @@
--- `list_words::word` meets its contract. The invariant: among what is left of the line, the word is as many words away as are still to be
--- passed. Assumes nothing.
-use mathlib.Core.Path.{◌≡◌, ◌∙◌}
-use native.Mathlib.Omega.{arith}
+-- `list_words::word` meets its contract. Assumes nothing.
+use Rattle.std.proofs.Common.{◌≡◌, ◌∙◌, ◌-◌, arith}
 use Rattle.list_words.specs.Words.{word_at, word_in}
 use Rattle.list_words.proofs.Scanning.{word_next}
 use Rattle.list_words.proofs.word.Goals as goal
 
-pub loop-left-init : goal.loop-left-init
+pub loop-i-init : goal.loop-i-init
 unfolding word_in
-loop-left-init c = rw c.before-rest.ensures
+loop-i-init c = let e : c.args.k - 0 ≡ c.args.k = omega arith in rw (c.code.ensures.count, e)
 
-pub loop-left-preserved : goal.loop-left-preserved
-loop-left-preserved c =
-    let at = c.loop-left in
-    rw (c.from-rest.ensures, c.from-here.ensures) (word_next at.rest.now at.left c.loop-left-test.true) ∙ at.invariant
+pub loop-i-preserved : goal.loop-i-preserved
+loop-i-preserved c = rw c.first.ensures.rest (word_next c.loop-i.rest.now c.args.k c.loop-i.i c.loop-i-test.true ∙ c.loop-i.invariant)
 
--- no word is left to be passed
 pub returns : goal.returns
 unfolding word_at
 returns c =
-    let at = c.loop-left in
-    let none : at.left ≡ 0 = omega arith in
-    c.before-2.ensures ∙ rw c.from.ensures (rw none at at.invariant)
+    let e : c.args.k - c.loop-i.i ≡ 0 = omega arith in
+    c.first-2.ensures.word ∙ (rw e at c.loop-i.invariant)
