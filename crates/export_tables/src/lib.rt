@@ -2,37 +2,16 @@
 #![tactic(auto)]
 
 ghost use Rattle.std.specs.Prelude.{◌≡◌, ◌+◌, ◌*◌};
-ghost use Rattle.table.specs.Answers.{answer_of};
-ghost use Rattle.writer_answer.specs.Outcomes.{outcome_of};
-ghost use Rattle.export_tables.specs.Loads.{coded, LoadIs};
+ghost use Rattle.export_tables.specs.Loads.{LoadIs};
 ghost use Rattle.export_tables.specs.Writes.{WriteIs};
 
-use basics::{word8, word16};
 use memory::{BYTES, WORDS};
-use table::Answer;
-use writer_answer::Outcome;
 
 // A number and an index as one number.
 fn code(number: u8, index: u16) -> u32
     ensures { result ≡ number + 256 * index }
 {
-    word8(number) + 256 * word16(index)
-}
-
-// The answer as one number.
-fn load_code(answer: Answer) -> u32
-    ensures { result ≡ coded (answer_of answer) }
-{
-    code(table::number(answer), table::index(answer))
-}
-
-fn write_code(outcome: Outcome) -> u32
-    ensures { result ≡ coded (outcome_of outcome) }
-{
-    code(
-        writer_answer::number(outcome),
-        writer_answer::index(outcome),
-    )
+    u32::from(number) + 256 * u32::from(index)
 }
 
 // Load a table: the refusal's number and 256 times its index, 0 where it is taken. The bench that is left takes the place of the old.
@@ -47,7 +26,7 @@ pub extern "C" fn tests_load(t: &[u8], bytes: &mut [u8; BYTES], words: &mut [u32
     *bytes = bytes_left;
     let words_left = bench.words;
     *words = words_left;
-    load_code(answer)
+    code(table::number(answer), table::index(answer))
 }
 
 // Write the table of two lists: the refusal's number and 256 times its index, 0 where it is written. A refusal leaves the buffer as it was.
@@ -56,5 +35,8 @@ pub extern "C" fn tests_write(devices: &[u8], links: &[u8], out: &mut [u8]) -> u
     ensures { WriteIs devices.now links.now out.old out.new result }
 {
     let outcome = writer::write(devices, links, out);
-    write_code(outcome)
+    code(
+        writer_answer::number(outcome),
+        writer_answer::index(outcome),
+    )
 }

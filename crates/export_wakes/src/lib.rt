@@ -41,7 +41,7 @@ pub extern "C" fn tests_lowest<'a>(bytes: &'a [u8; BYTES], words: &'a [u32; WORD
     ensures { LowestIs bytes.now words.now t result }
 {
     let first = links::index(bytes, words);
-    wakeset::lowest_member(bytes, &first, t)
+    wakeset::lowest_member(bytes, &first, t).unwrap_or(memory::devices(bytes))
 }
 
 // How many parents stand above device p.

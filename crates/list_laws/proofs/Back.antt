@@ -9,19 +9,20 @@ use lib.ListN.{length, get_or, take, drop, length-drop}
 use lib.Seq.{get_or-drop, take_all}
 use borrow.Author.Tests.{eqb-true}
 use Rattle.model.specs.Limits.{NONE}
-use Rattle.model.specs.Logic.{when◌then◌else◌, ◌and◌, all}
+use Rattle.model.specs.Logic.{when◌then◌else◌, all}
 use Rattle.model.specs.Table.{devices_in, links_in, device_byte, link_byte, parent_good, ends_good, device_good, link_fits, link_good, length_good}
 use Rattle.model.proofs.Basics.{few_devices_lem}
 use Rattle.model.proofs.Logic.{tests, all_iff}
 use Rattle.replay_text.specs.Text.{ascii, digits_up_to, decimal}
 use Rattle.writer_laws.proofs.Taken.{Rules, limits, taken_rules}
 use Rattle.writer_laws.proofs.Kept.{what_it_takes, its_own}
+use Rattle.std.specs.Prelude.{Result, Ok}
 use Rattle.list_lines.specs.declared.entries.Entry.{Entry}
+use Rattle.list_lines.specs.declared.entries.Fault.{Fault}
 use Rattle.list_lines.specs.declared.entries.Entry.TheVariants.{Part, Link}
 use Rattle.list_lines.specs.Lines.{entry_in}
 use Rattle.list_print.specs.Lines.{parent_text, part_words, part_text, link_words, link_text}
 use Rattle.list_print.proofs.Inverse.{part_back, link_back}
-use Rattle.list_text.specs.declared.Fault.TheVariants as fault
 use Rattle.list_text.specs.Texts.{part_bytes, link_bytes, bytes_of, gathered, fault_from, fault_in}
 use Rattle.list_laws.specs.Printed.{joined, text_of, RoundTrip}
 use Rattle.list_laws.proofs.Lines.{plain, plain_both, gathered_joined, faultless, end_gathered, end_faultless}
@@ -99,11 +100,11 @@ module _ (t : List ℕ) (h : Rules t) where
       record { consumer = omega arith; supplier = omega arith; flags = omega arith }
 
   -- ---- its entries, as its text says them
-  abbrev part : ℕ → Entry
-  part p = Part (device_byte t 0 p) (device_byte t 1 p)
+  abbrev part : ℕ → Result Entry Fault
+  part p = Ok (Part (device_byte t 0 p) (device_byte t 1 p))
 
-  abbrev link : ℕ → Entry
-  link i = Link (link_byte t 0 i) (link_byte t 1 i) (link_byte t 2 i)
+  abbrev link : ℕ → Result Entry Fault
+  link i = Ok (Link (link_byte t 0 i) (link_byte t 1 i) (link_byte t 2 i))
 
   abbrev part_line : ℕ → List ℕ
   part_line p = part_words (device_byte t 0 p) (device_byte t 1 p)
@@ -185,7 +186,7 @@ module _ (t : List ℕ) (h : Rules t) where
       rw (text_gathered true, parts_apart, append-nil)
       (joined_same _ _ (links_in t) (λ i l. own_link i) ∙ by_three (drop at t) (links_in t) (omega arith) ∙ take_all (3 * links_in t) (drop at t) (omega arith))
 
-  no_fault : fault_in (text_of t) ≡ fault.Nothing
+  no_fault : fault_in (text_of t) ≡ Ok tt
   unfolding fault_in fault_from
   no_fault =
       rw text_is

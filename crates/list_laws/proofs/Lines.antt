@@ -7,11 +7,12 @@ use native.Mathlib.Omega.{arith}
 use lib.Dec.{eqb}
 use Rattle.model.specs.Logic.{when◌then◌else◌, ◌and◌}
 use Rattle.model.proofs.Basics.{never, and_parts, and_of}
+use Rattle.std.specs.Prelude.{Result, Ok}
 use Rattle.list_lines.specs.declared.entries.Entry.{Entry}
+use Rattle.list_lines.specs.declared.entries.Fault.{Fault}
 use Rattle.list_lines.specs.declared.entries.Entry.TheVariants.{Nothing}
 use Rattle.list_lines.specs.Lines.{entry_in}
 use Rattle.list_lines.proofs.Empty.{empty_nothing}
-use Rattle.list_text.specs.declared.Fault.TheVariants as fault
 use Rattle.list_text.specs.Texts.{in_front, lines_of, entries_of, part_bytes, link_bytes, bytes_of, bytes_in, gathered, fault_from}
 use Rattle.list_laws.specs.Printed.{joined}
 
@@ -37,7 +38,7 @@ unfolding lines_of plain when◌then◌else◌
 line_cut [] rest e = refl
 line_cut (b ∷ w) rest e = let p = and_parts (not (eqb b 10)) (plain w) e in cut (eqb b 10) b w (w ++ 10 ∷ rest) p.0 (lines_of rest) (line_cut w rest p.1)
 
-pub entry_cut : (w rest : List ℕ) {e : Entry} → plain w ≡ true → entry_in w ≡ e → entries_of (w ++ 10 ∷ rest) ≡ e ∷ entries_of rest
+pub entry_cut : (w rest : List ℕ) {e : Result Entry Fault} → plain w ≡ true → entry_in w ≡ e → entries_of (w ++ 10 ∷ rest) ≡ e ∷ entries_of rest
 unfolding entries_of
 entry_cut w rest p e = rw (line_cut w rest p, e)
 
@@ -47,7 +48,7 @@ pub first_of : (v j rest : List ℕ) → ((v ++ 10 ∷ []) ++ j) ++ rest ≡ v +
 first_of v j rest = append_assoc (v ++ 10 ∷ []) j rest ∙ append_assoc v (10 ∷ []) (j ++ rest)
 
 -- what is gathered of them
-pub gathered_joined : (link : Bool) (w : ℕ → List ℕ) (e : ℕ → Entry) (n : ℕ) (rest : List ℕ)
+pub gathered_joined : (link : Bool) (w : ℕ → List ℕ) (e : ℕ → Result Entry Fault) (n : ℕ) (rest : List ℕ)
     → ((k : ℕ) → k < n → plain (w k) ≡ true)
     → ((k : ℕ) → k < n → entry_in (w k) ≡ e k)
     → gathered link (joined (λ k. w k ++ 10 ∷ []) n ++ rest) ≡ joined (λ k. bytes_of link (e k)) n ++ gathered link rest
@@ -60,12 +61,12 @@ gathered_joined link w e (suc n) rest p s =
     (ap (λ (x : List ℕ). bytes_of link (e 0) ++ x) i ∙ sym (append_assoc (bytes_of link (e 0)) (joined (λ k. bytes_of link (e (suc k))) n) (bytes_in link (entries_of rest))))
 
 -- and no line of them is faulty: lines are numbered from j
-pub faultless : (w : ℕ → List ℕ) (e : ℕ → Entry) (n : ℕ) (rest : List ℕ) (j : ℕ)
+pub faultless : (w : ℕ → List ℕ) (e : ℕ → Result Entry Fault) (n : ℕ) (rest : List ℕ) (j : ℕ)
     → ((k : ℕ) → k < n → plain (w k) ≡ true)
     → ((k : ℕ) → k < n → entry_in (w k) ≡ e k)
-    → ((k i : ℕ) (es : List Entry) → fault_from i (e k ∷ es) ≡ fault_from (suc i) es)
-    → ((i : ℕ) → fault_from i (entries_of rest) ≡ fault.Nothing)
-    → fault_from j (entries_of (joined (λ k. w k ++ 10 ∷ []) n ++ rest)) ≡ fault.Nothing
+    → ((k i : ℕ) (es : List (Result Entry Fault)) → fault_from i (e k ∷ es) ≡ fault_from (suc i) es)
+    → ((i : ℕ) → fault_from i (entries_of rest) ≡ Ok tt)
+    → fault_from j (entries_of (joined (λ k. w k ++ 10 ∷ []) n ++ rest)) ≡ Ok tt
 unfolding joined
 faultless w e zero rest j p s g r = r j
 faultless w e (suc n) rest j p s g r =
@@ -75,7 +76,7 @@ faultless w e (suc n) rest j p s g r =
     ∙ faultless (λ k. w (suc k)) (λ k. e (suc k)) n rest (suc j) (λ k l. p (suc k) (omega arith)) (λ k l. s (suc k) (omega arith)) (λ k. g (suc k)) r)
 
 -- ---- after them there is an empty line, which says nothing
-pub at_end : entries_of [] ≡ Nothing ∷ []
+pub at_end : entries_of [] ≡ Ok Nothing ∷ []
 unfolding entries_of lines_of
 at_end = rw empty_nothing
 
@@ -84,6 +85,6 @@ unfolding gathered bytes_in bytes_of part_bytes link_bytes
 end_gathered true = rw at_end
 end_gathered false = rw at_end
 
-pub end_faultless : (i : ℕ) → fault_from i (entries_of []) ≡ fault.Nothing
+pub end_faultless : (i : ℕ) → fault_from i (entries_of []) ≡ Ok tt
 unfolding fault_from
 end_faultless i = rw at_end

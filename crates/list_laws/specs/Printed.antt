@@ -1,10 +1,9 @@
 -- The text of a table, and that it is written as the same table. Assumes nothing.
-use Rattle.std.specs.Prelude.{◌≡◌, true, false, List, [], ◌++◌, ℕ, zero, suc, ◌≤◌, length}
+use Rattle.std.specs.Prelude.{◌≡◌, true, false, Ok, List, [], ◌++◌, ℕ, zero, suc, ◌≤◌, length}
 use Rattle.model.specs.Table.{devices_in, links_in, device_byte, link_byte}
 use Rattle.model.specs.Writing.{written, write_of}
 use Rattle.writer_laws.specs.Laws.{Taken}
 use Rattle.list_print.specs.Lines.{part_text, link_text}
-use Rattle.list_text.specs.declared.Fault.TheVariants as fault
 use Rattle.list_text.specs.Texts.{gathered, fault_in}
 
 -- so many texts, one after another
@@ -20,7 +19,7 @@ text_of t =
 
 -- every line of it is one of a list's, and the writer makes the same table of its lists
 pub record WrittenBack (t buffer : List ℕ) : Type 0 where
-  pub lines : fault_in (text_of t) ≡ fault.Nothing
+  pub lines : fault_in (text_of t) ≡ Ok tt
   pub table : write_of (gathered false (text_of t)) (gathered true (text_of t)) buffer ≡ written t buffer
 
 abbrev pub RoundTrip : Type 0

@@ -8,7 +8,7 @@ ghost use Rattle.request_answer.specs.Promises.{LeadsBy};
 ghost use Rattle.request_wake.specs.Wakes.{Resumes, ResultLeads, failed};
 
 use links::FIRSTS;
-use memory::{BYTES, WORDS, devices, set_callback};
+use memory::{BYTES, WORDS, set_callback};
 use memory_rows::{depth, error, status};
 use memory_stores::{set_error, set_status_cell};
 use model::{ACTIVE, EACCES, EBUSY, EINVAL, RESUMING, SUSPENDED};
@@ -74,10 +74,9 @@ fn go_on<'a>(
 ) -> Reply
     ensures { LeadsBy go_on first.now bytes.old words.old t bytes.new words.new result }
 {
-    let low = lowest_member(bytes, first, t);
-    if devices(bytes) <= low {
+    let Some(low) = lowest_member(bytes, first, t) else {
         return finished(t, 0);
-    }
+    };
     ask_resume(bytes, low, t)
 }
 

@@ -35,7 +35,7 @@ unfolding restore_of state_by when◌then◌else◌
 restore_read f c h = rw (← h.number, h.cells.in_bytes, h.cells.in_words)
 
 -- the empty bench, sound or not
-judged_empty : (judged_of empty_state).state ≡ empty_state
+pub judged_empty : (judged_of empty_state).state ≡ empty_state
 unfolding judged_of
 judged_empty = by_if (λ (r : Restored). r.state ≡ empty_state) _ _ _ (λ e. refl) (λ e. refl)
 

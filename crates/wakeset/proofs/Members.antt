@@ -9,6 +9,8 @@ use native.Mathlib.Omega.{arith}
 use native.Mathlib.Decide.{dec_lt}
 use lib.ListN.{length, get_or, replicate, length-replicate}
 use lib.Seq.{ext_get_or}
+use Rattle.std.specs.Prelude.{Option, None, Some}
+use Rattle.std.specs.Option.{unwrap_or}
 use Rattle.model.specs.Limits.{ROWS, NONE}
 use Rattle.model.specs.Logic.{◌and◌, any, first}
 use Rattle.model.specs.State.{State, ACTIVE, status_at}
@@ -21,7 +23,7 @@ use Rattle.model.proofs.WakeSet.{none_on, marks_long, falls_iff, falls_within, f
 use Rattle.memory.specs.Layout.{state_in}
 use Rattle.links.specs.Firsts.{Listed}
 use Rattle.wakeset.proofs.Scans.{off}
-use Rattle.wakeset.specs.Marks.{IsWakeSet, IsLowest, HeardFrom, Reaches}
+use Rattle.wakeset.specs.Marks.{IsWakeSet, IsLowest, FindsLowest, HeardFrom, Reaches}
 use Rattle.wakeset.specs.Sweep.{Swept, Sweeps}
 use Rattle.wakeset.proofs.Resting.{needs_follows}
 
@@ -166,6 +168,12 @@ module _ {bytes first-links : List ℕ} {t : ℕ} where
           free = λ y. let k = z words in absurd (omega arith);
           barred = λ y l. h.is (low.least t (swept words).top) (λ q k. off _ (λ o. let j = low.least q o in omega arith)) ∙ others_below _ y.order l (wake_marks_lem.is words y l);
         }
+
+  -- as a number: n where there is none
+  pub finds_lowest : {n : ℕ} (r : Option ℕ) → ((words : List ℕ) → n ≡ (state_in bytes words).wiring.n) → FindsLowest bytes first-links t r
+      → IsLowest bytes first-links t (unwrap_or r n)
+  finds_lowest None e z = lowest_powered e z
+  finds_lowest (Some q) e z = z.1
 
   pub reaches_powered : {words : List ℕ} {r : ℕ} → ((words : List ℕ) → r ≡ (state_in bytes words).wiring.n) → ((words : List ℕ) → ACTIVE ≤ status_at (state_in bytes words) t) →
       Reaches bytes words first-links t (record { low = r; barred = false })

@@ -1,5 +1,5 @@
 -- What is promised of a wake set. Assumes nothing.
-use Rattle.std.specs.Prelude.{◌≡◌, Bool, false, List, ℕ, ◌<◌, ◌≤◌}
+use Rattle.std.specs.Prelude.{◌≡◌, Bool, false, List, Option, None, Some, ℕ, ◌<◌, ◌≤◌}
 use Rattle.model.specs.Logic.{◌and◌, any}
 use Rattle.model.specs.State.{State, ACTIVE, status_at}
 use Rattle.model.specs.WakeSet.{Sleeping, marked, On, wake_marks, lowest}
@@ -24,6 +24,11 @@ pub record IsLowest (bytes first : List ℕ) (t r : ℕ) : Type 0 where
   pub powered : (words : List ℕ) → ACTIVE ≤ status_at (state_in bytes words) t → r ≡ (state_in bytes words).wiring.n
   pub asleep : (words : List ℕ) → status_at (state_in bytes words) t < ACTIVE → Sleeper (state_in bytes words) t r
   pub is : (words : List ℕ) → let s = state_in bytes words in Listed s.wiring first → t < s.wiring.n → r ≡ lowest s t
+
+-- the lowest member as an Option: none where t is powered, and where t sleeps its lowest
+abbrev pub FindsLowest : (bytes first : List ℕ) (t : ℕ) → Option ℕ → Type 0
+FindsLowest bytes first t None = (words : List ℕ) → ACTIVE ≤ status_at (state_in bytes words) t
+FindsLowest bytes first t (Some q) = ((words : List ℕ) → status_at (state_in bytes words) t < ACTIVE) × IsLowest bytes first t q
 
 -- a marked device below t is barred, where low is at most t and no device below it is marked
 pub record HeardFrom (bytes words : List ℕ) (ms : List Bool) (low t : ℕ) (r : Bool) : Type 0 where

@@ -3,7 +3,7 @@
 
 ghost use Rattle.std.specs.Prelude.{◌≡◌, length};
 ghost use Rattle.model.specs.Limits.{ROWS};
-ghost use Rattle.wakeset.specs.Marks.{IsWakeSet, HeardFrom, IsLowest, Reaches};
+ghost use Rattle.wakeset.specs.Marks.{IsWakeSet, HeardFrom, FindsLowest, Reaches};
 ghost use Rattle.wakeset.specs.Sweep.{Chosen, Adds, Passes, Steps, Sweeps};
 
 use links::FIRSTS;
@@ -13,7 +13,8 @@ use memory_rows::{parent, status};
 use model::{ACTIVE, ROWS};
 use wake_rules::{bars, on_parent, on_supplier};
 
-// The lowest member of a wake set, n where it has none, and whether a member other than the target is barred.
+// The lowest member of a wake set, n where it has none, and whether a member other than the target is barred. The number stays, in place of
+// an Option: it is the model's `lowest` for a powered target too, which the contract of `request_wake::wake` needs in every ready state.
 #[derive(Clone, Copy)]
 pub struct Reach {
     pub low: u8,
@@ -121,15 +122,15 @@ fn any_barred<'a>(
     found
 }
 
-// The lowest member of the wake set of device t; n where it has none. A powered device's wake set is empty.
-pub fn lowest_member<'a>(bytes: &'a [u8; BYTES], first: &'a [u16; FIRSTS], t: u8) -> u8
-    ensures { IsLowest bytes.now first.now t result }
+// The lowest member of the wake set of device t. A powered device's wake set is empty.
+pub fn lowest_member<'a>(bytes: &'a [u8; BYTES], first: &'a [u16; FIRSTS], t: u8) -> Option<u8>
+    ensures { FindsLowest bytes.now first.now t result }
 {
     if ACTIVE <= status(bytes, t) {
-        return devices(bytes);
+        return None;
     }
     let mut marks = [false; ROWS];
-    sweep(bytes, first, t, &mut marks)
+    Some(sweep(bytes, first, t, &mut marks))
 }
 
 // The lowest member of the wake set of device t, and whether another member is barred.

@@ -8,4 +8,4 @@ use Rattle.export_tables.proofs.tests_load.Goals as goal
 pub returns : goal.returns
 returns c =
     let loaded = c.load-loaded.ensures in
-    record { code = c.load_code.ensures ∙ ap (λ (l : Loaded). coded l.answer) loaded; state = ap (λ (l : Loaded). l.state) loaded }
+    record { code = rw (c.number.ensures, c.index.ensures) at c.code.ensures ∙ ap (λ (l : Loaded). coded l.answer) loaded; state = ap (λ (l : Loaded). l.state) loaded }

@@ -8,4 +8,4 @@ use Rattle.export_tables.proofs.tests_write.Goals as goal
 pub returns : goal.returns
 returns c =
     let written = c.write-outcome.ensures in
-    record { code = c.write_code.ensures ∙ ap (λ (w : Writing). coded w.answer) written; buffer = ap (λ (w : Writing). w.buffer) written }
+    record { code = rw (c.number.ensures, c.index.ensures) at c.code.ensures ∙ ap (λ (w : Writing). coded w.answer) written; buffer = ap (λ (w : Writing). w.buffer) written }
