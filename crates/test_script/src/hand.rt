@@ -32,7 +32,8 @@ pub fn set(rt: &impl Print, b: Bench, line: &[u8]) -> io::Result<Bench> {
     let first = byte_in(line, 2);
     let second = byte_in(line, 3);
     let third = byte_in(line, 4);
-    let names = b"parent ignore status depth children consumer supplier flags n callback carried holds error linked m";
+    let names =
+        b"parent ignore status depth children consumer supplier flags n callback carried holds error linked m";
     match name_in(names, line, 1) {
         Some(page @ 0..=4) => memory::set_byte_at(&mut bytes, page, row, second),
         Some(k @ 5..=7) => memory::set_link_at(&mut bytes, k - 5, row, second),

@@ -99,8 +99,16 @@ fn save(rt: &impl Print, play: Play, slots: &mut [Play; SLOTS], line: &[u8]) -> 
 }
 
 fn compare(rt: &impl Print, play: Play, other: Play) -> io::Result<()> {
-    let bench = if test_same::same(play.bench, other.bench) { "same" } else { "DIFFERENT" };
-    let replies = if play.replies == other.replies { "same" } else { "different" };
+    let bench = if test_same::same(play.bench, other.bench) {
+        "same"
+    } else {
+        "DIFFERENT"
+    };
+    let replies = if play.replies == other.replies {
+        "same"
+    } else {
+        "different"
+    };
     print!(rt; ": {bench}, replies {replies}")
 }
 
@@ -110,7 +118,8 @@ fn fresh(bench: Bench) -> Play {
 
 // Which command a line is. The kinds of records are numbered by their names, from 1.
 fn command_of(line: &[u8]) -> Option<Command> {
-    let names = b"enable disable get getwake put putidle idle suspend wake setactive setsuspended ignore result record feed table empty set state ask wakes save back same";
+    let names =
+        b"enable disable get getwake put putidle idle suspend wake setactive setsuspended ignore result record feed table empty set state ask wakes save back same";
     match name_in(names, line, 0)? {
         k @ 0..=12 => Some(Command::Record(k as u8 + 1)),
         13 => Some(Command::Raw),
@@ -148,7 +157,13 @@ fn fed(rt: &impl Print, play: Play, command: Command, line: &[u8]) -> io::Result
 }
 
 // The commands that only tell.
-fn told(rt: &impl Print, play: Play, slots: &[Play; SLOTS], command: Command, line: &[u8]) -> io::Result<()> {
+fn told(
+    rt: &impl Print,
+    play: Play,
+    slots: &[Play; SLOTS],
+    command: Command,
+    line: &[u8],
+) -> io::Result<()> {
     match command {
         Command::State => tell::state(rt, play.bench, hand::byte_in(line, 1)),
         Command::Ask => tell::ask(rt, play.bench, line),

@@ -49,8 +49,15 @@ fn callback(rt: &impl Print, kind: u8, asked: u8, target: u8) -> io::Result<()> 
 fn cells(rt: &impl Print, bytes: &[u8; BYTES], words: &[u32; WORDS], p: u8) -> io::Result<()> {
     let error = memory_rows::error(words, p);
     let sign = if error == 0 { "" } else { "-" };
-    let ignores = if memory_rows::ignore(bytes, p) == 0 { "" } else { " ignores children" };
-    print!(rt; " depth {} error {sign}{error}{ignores}", memory_rows::depth(bytes, p))?;
+    let ignores = if memory_rows::ignore(bytes, p) == 0 {
+        ""
+    } else {
+        " ignores children"
+    };
+    print!(rt;
+        " depth {} error {sign}{error}{ignores}",
+        memory_rows::depth(bytes, p)
+    )?;
     callback(
         rt,
         memory::callback(bytes),

@@ -17,8 +17,16 @@ pub fn table(rt: &impl Print, t: &[u8]) -> io::Result<Bench> {
             print!(rt; ": taken, devices {devices}, links {links}")?;
         }
         Err(refusal) => {
-            let left = if test_same::same(bench, keeper::empty()) { "empty bench" } else { "NOT EMPTY" };
-            print!(rt; ": refused {}, index {}, {left}", refusal.number(), refusal.index())?;
+            let left = if test_same::same(bench, keeper::empty()) {
+                "empty bench"
+            } else {
+                "NOT EMPTY"
+            };
+            print!(rt;
+                ": refused {}, index {}, {left}",
+                refusal.number(),
+                refusal.index()
+            )?;
         }
     }
     Ok(bench)
