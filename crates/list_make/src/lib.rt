@@ -13,7 +13,7 @@ const DEVICE_BYTES: usize = 2 * (DEVICES as usize);
 
 const LINK_BYTES: usize = 3 * LINKS;
 
-// A refusal of the writer, and the line it stands in, 0 where there is none.
+// A refusal of the writer, and the line it stands in, 0 where there is none, as `line_number` of the definitions gives it.
 #[derive(Clone, Copy, Debug, PartialEq, Eq)]
 pub struct Refusal {
     pub number: u8,
