@@ -8,7 +8,7 @@ ghost use Rattle.c_calls.specs.Numbers.{RANGE, answered, device_of};
 pub fn refused(number: u8) -> i32
     ensures { result ≡ neg_ℤ (pos number) }
 {
-    0 - (number as i32)
+    -i32::from(number)
 }
 
 // What is answered. Whatever the keeper answers is below 2^31.
@@ -33,8 +33,5 @@ pub fn signed(code: u64) -> i32
 pub fn device(part: u32) -> u8
     ensures { result ≡ device_of part }
 {
-    if part < 255 {
-        return part as u8;
-    }
-    255
+    u8::try_from(part).unwrap_or(255)
 }

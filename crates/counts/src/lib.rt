@@ -32,7 +32,8 @@ fn next_children(children: u8, up: bool) -> u8
     }
 }
 
-// A link count one more or one less; it stays where that would pass 65535, or wrap.
+// A link count one more or one less; it stays where that would pass 65535, or wrap. Its limit is not that of its type, so the library's sum
+// for children does not serve here.
 fn next_links(links: u32, up: bool) -> u32
     ensures { result ≡ next_up_to 65535 up links }
 {

@@ -5,20 +5,34 @@ ghost use Rattle.std.specs.Prelude.{◌≡◌, ◌+◌};
 ghost use Rattle.memory.specs.Layout.{state_in};
 ghost use Rattle.request_answer.specs.Promises.{reply_of};
 ghost use Rattle.model.specs.Methods.{requested};
+ghost use Rattle.keeper_bench.specs.Translate.{state_of};
 ghost use Rattle.keeper_bench.specs.Methods.{number_in, reply_in, Gives};
-ghost use Rattle.keeper_answers.specs.Told.{told_code};
+ghost use Rattle.keeper_answers.specs.Told.{number_told, told_code};
 ghost use Rattle.export_bench.specs.Asked.{asked_of};
 ghost use Rattle.export_bench.specs.Called.{packed, method_of, CalledIs};
 
-use basics::word8;
-use keeper_answers::{member_code, number_code, status_code};
+use keeper_answers::{Refusal, code};
 use keeper_bench::Bench;
-use keeper_bench::methods::{Outcome, Requested};
+use keeper_bench::methods::{Requested, Unsound};
 use memory::{BYTES, WORDS};
 use request_answer::Reply;
 
-// A question on the memory of a bench: status, user holds, usage count, child count and parents above from 0 on, else the membership of
-// device q in the wake set of device p.
+// A question on a bench: status, user holds, usage count, child count and parents above from 0 on, else the membership of device q in the
+// wake set of device p.
+fn answer(b: Bench, question: u8, p: u8, q: u8) -> Result<u32, Refusal>
+    ensures { number_told result ≡ asked_of (state_of b) question p q }
+{
+    match question {
+        0 => Ok(u32::from(keeper_questions::status_of(b, p)?.number())),
+        1 => keeper_questions::user_holds(b, p),
+        2 => keeper_questions::usage_count(b, p),
+        3 => keeper_questions::child_count(b, p),
+        4 => keeper_questions::parents_above(b, p),
+        _ => Ok(u32::from(keeper_questions::in_wake_set(b, p, q)?)),
+    }
+}
+
+// The same on the memory of a bench, the answer as one number.
 #[unsafe(no_mangle)]
 pub extern "C" fn tests_ask<'a>(
     bytes: &'a [u8; BYTES],
@@ -33,14 +47,7 @@ pub extern "C" fn tests_ask<'a>(
         bytes: *bytes,
         words: *words,
     };
-    match question {
-        0 => status_code(keeper_questions::status_of(b, p)),
-        1 => number_code(keeper_questions::user_holds(b, p)),
-        2 => number_code(keeper_questions::usage_count(b, p)),
-        3 => number_code(keeper_questions::child_count(b, p)),
-        4 => number_code(keeper_questions::parents_above(b, p)),
-        _ => member_code(keeper_questions::in_wake_set(b, p, q)),
-    }
+    code(answer(b, question, p, q))
 }
 
 // The method of a kind, that of results for any kind above 12.
@@ -68,17 +75,16 @@ fn called(b: Bench, kind: u8, p: u8, v: u16) -> Requested
 fn pack(reply: Reply) -> u32
     ensures { result ≡ packed (reply_of reply) }
 {
-    let code = reply.code as u32;
-    word8(reply.kind) + 256 * word8(reply.device) + 65536 * code
+    u32::from(reply.kind) + 256 * u32::from(reply.device) + 65536 * u32::from(reply.code)
 }
 
 // The reply of an outcome; 21, which is no kind of reply, for a bench that is not sound.
-fn outcome_code(outcome: Outcome) -> u32
+fn outcome_code(outcome: Result<Reply, Unsound>) -> u32
     ensures { result ≡ number_in outcome + packed (reply_in outcome) }
 {
     match outcome {
-        Outcome::Unsound => 21,
-        Outcome::Replied(reply) => pack(reply),
+        Ok(reply) => pack(reply),
+        Err(Unsound) => 21,
     }
 }
 

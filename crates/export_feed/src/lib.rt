@@ -6,17 +6,16 @@ ghost use Rattle.std.specs.Prelude.{◌≡◌};
 ghost use Rattle.record_answer.specs.Answers.{number_of, replies_of};
 ghost use Rattle.export_feed.specs.Fed.{fed_code, FedIn};
 
-use basics::word8;
 use keeper_bench::Bench;
 use memory::{BYTES, WORDS};
-use record_answer::Answer;
+use record_answer::Refusal;
 
 // The answer as one number: the refusal's number and 256 times the number of replies.
-fn code(answer: Answer) -> u32
+fn code(answer: Result<u16, Refusal>) -> u32
     ensures { result ≡ fed_code (number_of answer) (replies_of answer) }
 {
-    let number = word8(record_answer::number(answer));
-    let replies = record_answer::count(answer) as u32;
+    let number = u32::from(record_answer::number(answer));
+    let replies = u32::from(record_answer::count(answer));
     number + 256 * replies
 }
 

@@ -14,7 +14,8 @@ use Rattle.writer_laws.proofs.Given.{links_whole_lem, table_long, writes_given}
 use Rattle.writer_lists.proofs.Answers.{none, many_devices, many_links, over}
 use Rattle.writer.proofs.Laying.{handed_on}
 use Rattle.list_text.specs.Texts.{at_front}
-use Rattle.list_make.specs.declared.Made.{Made}
+use Rattle.std.specs.Prelude.{Result}
+use Rattle.list_make.specs.declared.Failure.{Failure}
 use Rattle.list_make.specs.Making.{listed_devices, listed_links, writing_in, made_from, Makes}
 use Rattle.list_make.proofs.Telling.{same_size}
 
@@ -55,7 +56,7 @@ whole_size devices links buffer e =
     omega arith
 
 -- ---- what is told of the writer's answer a, where the table would have that size
-pub makes : (text buffer : List ℕ) (size : ℕ) {a : TableAnswer} {after : List ℕ} {r : Made}
+pub makes : (text buffer : List ℕ) (size : ℕ) {a : TableAnswer} {after : List ℕ} {r : Result ℕ Failure}
     → record { answer = a; buffer = after } ≡ writing_in text buffer
     → r ≡ made_from text a size
     → (a.number ≡ 0 → size ≡ 7 + length (listed_devices text) + length (listed_links text))

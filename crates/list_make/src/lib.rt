@@ -2,33 +2,29 @@
 #![tactic(auto)]
 
 ghost use Rattle.std.specs.Prelude.{◌≡◌};
-ghost use Rattle.writer_answer.specs.Outcomes.{outcome_of};
+ghost use Rattle.writer_answer.specs.Outcomes.{outcome_of, refusal_of};
 ghost use Rattle.list_make.specs.Making.{over_line, refused_line, made_from, Makes, MakesOf};
 
-use basics::wide;
-use list_text::Fault;
+use list_text::Faulty;
 use model::{DEVICES, LINKS};
-use writer_answer::{Outcome, index, number};
 
 // The most bytes of the devices and of the links of a table.
 const DEVICE_BYTES: usize = 2 * (DEVICES as usize);
 
 const LINK_BYTES: usize = 3 * LINKS;
 
-// A refusal of the writer, and the line it stands in, 0 where there is none.
-#[derive(Clone, Copy)]
+// A refusal of the writer, and the line it stands in, 0 where there is none, as `line_number` of the definitions gives it.
+#[derive(Clone, Copy, Debug, PartialEq, Eq)]
 pub struct Refusal {
     pub number: u8,
     pub index: u16,
     pub line: usize,
 }
 
-// What becomes of a list: a table of so many bytes, a line in which a number is over 255, a line of another sort, or a refusal.
-#[derive(Clone, Copy)]
-pub enum Made {
-    Written(usize),
-    Large(usize),
-    Wrong(usize),
+// Why no table is made of a list: a line that is none of a list's, or a refusal.
+#[derive(Clone, Copy, Debug, PartialEq, Eq)]
+pub enum Failure {
+    Line(Faulty),
     Refused(Refusal),
 }
 
@@ -36,7 +32,7 @@ pub enum Made {
 fn over_line(text: &[u8]) -> usize
     ensures { result ≡ over_line text.now }
 {
-    let line = list_text::line_of(text, false, DEVICES as usize);
+    let line = list_text::line_of(text, false, usize::from(DEVICES));
     if line == 0 {
         return list_text::line_of(text, true, LINKS);
     }
@@ -44,35 +40,37 @@ fn over_line(text: &[u8]) -> usize
 }
 
 // The line that a refusal stands in.
-fn refused_line(text: &[u8], number: u8, index: u16) -> usize
-    ensures { result ≡ refused_line text.now number index }
+fn refused_line(text: &[u8], refusal: writer_answer::Refusal) -> usize
+    ensures { result ≡ refused_line text.now (refusal_of refusal).number (refusal_of refusal).index }
 {
-    match number {
-        6 => list_text::line_of(text, false, wide(index)),
-        7 => list_text::line_of(text, true, wide(index)),
-        _ => over_line(text),
+    match refusal {
+        writer_answer::Refusal::Device(p) => list_text::line_of(text, false, usize::from(p)),
+        writer_answer::Refusal::Link(i) => list_text::line_of(text, true, usize::from(i)),
+        writer_answer::Refusal::Limits => over_line(text),
+        writer_answer::Refusal::Room => over_line(text),
     }
 }
 
 // An outcome of the writer as it is told, with the size that the table has where it is written.
-fn told(text: &[u8], outcome: Outcome, size: usize) -> Made
+fn told(
+    text: &[u8],
+    outcome: Result<(), writer_answer::Refusal>,
+    size: usize,
+) -> Result<usize, Failure>
     ensures { result ≡ made_from text.now (outcome_of outcome) size }
 {
-    let n = number(outcome);
-    if n == 0 {
-        return Made::Written(size);
+    match outcome {
+        Ok(()) => Ok(size),
+        Err(refusal) => Err(Failure::Refused(Refusal {
+            number: refusal.number(),
+            index: refusal.index(),
+            line: refused_line(text, refusal),
+        })),
     }
-    let i = index(outcome);
-    let line = refused_line(text, n, i);
-    Made::Refused(Refusal {
-        number: n,
-        index: i,
-        line: line,
-    })
 }
 
 // The table of a text whose lines are all of a list's.
-fn compile(text: &[u8], table: &mut [u8]) -> Made
+fn compile(text: &[u8], table: &mut [u8]) -> Result<usize, Failure>
     ensures { Makes text.now table.old result table.new }
 {
     let mut devices = [0u8; DEVICE_BYTES];
@@ -80,23 +78,21 @@ fn compile(text: &[u8], table: &mut [u8]) -> Made
     let mut links = [0u8; LINK_BYTES];
     let m = list_text::gather(text, true, &mut links);
     if DEVICE_BYTES < n {
-        return told(text, Outcome::Limits, 0);
+        return told(text, Err(writer_answer::Refusal::Limits), 0);
     }
     if LINK_BYTES < m {
-        return told(text, Outcome::Limits, 0);
+        return told(text, Err(writer_answer::Refusal::Limits), 0);
     }
     let outcome = writer::write(&devices[..n], &links[..m], table);
     told(text, outcome, 7 + n + m)
 }
 
-// The table of a list, or what is told of it; then the buffer stays as it is.
-pub fn make(text: &[u8], table: &mut [u8]) -> Made
+// The size of the table of a list, or why there is none; then the buffer stays as it is.
+pub fn make(text: &[u8], table: &mut [u8]) -> Result<usize, Failure>
     ensures { MakesOf text.now table.old result table.new }
 {
-    let fault = list_text::fault_in(text);
-    match fault {
-        Fault::Nothing => compile(text, table),
-        Fault::Large(line) => Made::Large(line),
-        Fault::Wrong(line) => Made::Wrong(line),
+    match list_text::fault_in(text) {
+        Ok(()) => compile(text, table),
+        Err(faulty) => Err(Failure::Line(faulty)),
     }
 }

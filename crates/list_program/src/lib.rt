@@ -7,11 +7,11 @@ ghost use Rattle.list_program.specs.Ends.{Listed};
 ghost use Rattle.list_program.specs.Lines.{device_line, link_line};
 
 use list_print::{link_line, part_line};
-use program_end::{End, status};
+use program_end::End;
 use program_files::{arg_count, print, say};
 use replay_text::line::Line;
 use std::rt::Runtime;
-use table::Answer;
+use table::Refusal;
 use table_entries::{byte_at, device_byte, link_byte};
 
 // The line of device p.
@@ -32,35 +32,19 @@ fn link(t: &[u8], i: u16) -> Line
 
 // Prints the lines of all devices.
 fn devices(rt: &impl Runtime, t: &[u8]) -> bool {
-    let n = byte_at(t, 5);
-    let mut p: u8 = 0;
-    while p < n {
-        if !print(rt, b"list: ", device(t, p)) {
-            return false;
-        }
-        p += 1;
-    }
-    true
+    (0..byte_at(t, 5)).all(|p| print(rt, b"list: ", device(t, p)))
 }
 
 // Prints the lines of all links.
 fn links(rt: &impl Runtime, t: &[u8]) -> bool {
-    let m = byte_at(t, 6) as u16;
-    let mut i: u16 = 0;
-    while i < m {
-        if !print(rt, b"list: ", link(t, i)) {
-            return false;
-        }
-        i += 1;
-    }
-    true
+    (0..u16::from(byte_at(t, 6))).all(|i| print(rt, b"list: ", link(t, i)))
 }
 
 // Tells that the table is refused.
-fn refuse(rt: &impl Runtime, answer: Answer) -> End
+fn refuse(rt: &impl Runtime, refusal: Refusal) -> End
     ensures { (result ≡ End.Refused) ⊎ (result ≡ End.Failed) }
 {
-    if print(rt, b"list: ", replay_report::refused(answer)) {
+    if print(rt, b"list: ", replay_report::refused(Err(refusal))) {
         return End::Refused;
     }
     End::Failed
@@ -83,22 +67,19 @@ fn entries(rt: &impl Runtime, t: &[u8]) -> End
 fn list(rt: &impl Runtime, t: &[u8]) -> End
     ensures { Listed (table_answer t.now).number result }
 {
-    let answer = table::judge(t);
-    let Answer::Taken = answer else {
-        return refuse(rt, answer);
-    };
-    entries(rt, t)
+    match table::judge(t) {
+        Ok(()) => entries(rt, t),
+        Err(refusal) => refuse(rt, refusal),
+    }
 }
 
 // Reads the table whose name is argument 1, and lists it. One that is longer than 4,096 bytes is refused with the number of its first
 // 4,096, as in `replay`.
 fn begin(rt: &impl Runtime) -> End {
     let mut bytes = io::buffer();
-    let read = program_files::first_bytes(rt, b"list: ", b"TABLE", &mut bytes);
-    if read.failed.is_some() {
+    let Ok(count) = program_files::first_bytes(rt, b"list: ", b"TABLE", &mut bytes) else {
         return End::Failed;
-    }
-    let count = read.count;
+    };
     list(rt, &bytes[..count])
 }
 
@@ -106,7 +87,7 @@ fn begin(rt: &impl Runtime) -> End {
 pub fn run(rt: &impl Runtime) -> u8 {
     if arg_count(rt, 3) != 2 {
         say(rt, b"usage: list TABLE\n");
-        return status(End::Wrong);
+        return u8::from(End::Wrong);
     }
-    status(begin(rt))
+    u8::from(begin(rt))
 }

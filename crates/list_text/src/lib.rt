@@ -22,7 +22,8 @@ pub struct Faulty {
     pub line: usize,
 }
 
-// What a line says, and where the line after it starts.
+// What a line says, and where the line after it starts. The three walks go on by `next`: over `text.split(..)` what the loop needs of the
+// closure (that it may be called at each turn, and which test it is) did not prove.
 #[derive(Clone, Copy)]
 struct Line {
     entry: Result<Entry, Fault>,
@@ -69,7 +70,7 @@ pub fn fault_in(text: &[u8]) -> Result<(), Faulty>
     Ok(())
 }
 
-// A byte stored at a place of a buffer, if there is room.
+// A byte stored at a place of a buffer, if there is room. Not by `get_mut`: what the buffer holds after its `None` did not prove.
 fn put(out: &mut [u8], at: usize, byte: u8)
     ensures { out.new ≡ set out.old at byte }
 {
@@ -117,6 +118,7 @@ fn put_entry(out: &mut [u8], at: usize, link: bool, entry: Result<Entry, Fault>)
     }
 }
 
+// The sort is a `bool`, as in the definitions that the law RoundTrip speaks of; a closure would need a `requires`, which `gather` has not.
 // The bytes of all parts, or of all links, at the front of a buffer, as far as it has room; how many bytes they are.
 pub fn gather(text: &[u8], link: bool, out: &mut [u8]) -> usize
     ensures { Gathered link text.now out.old result out.new }

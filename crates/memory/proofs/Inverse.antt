@@ -46,7 +46,7 @@ module _ (cells : List ℕ) where
       let f = length-take (ROWS * pages) cells in
       area_length (ROWS * k) ROWS (take (ROWS * pages) cells) (omega arith)
 
-  link_rows : (k : ℕ) → BYTETAIL ≤ length cells → k < LINKPAGES → length (link_col k cells) ≡ LINKS
+  pub link_rows : (k : ℕ) → BYTETAIL ≤ length cells → k < LINKPAGES → length (link_col k cells) ≡ LINKS
   unfolding link_col page
   link_rows k long few =
       let z : LINKS * suc k ≤ LINKS * LINKPAGES = mul-le-mul_left LINKS (omega arith) in

@@ -2,6 +2,7 @@
 use mathlib.Core.Path.{◌≡◌, refl, sym, ◌∙◌, ap}
 use mathlib.Core.List.{List, [], ◌∷◌}
 use mathlib.Core.Logic.{◌⊎◌, inl, inr}
+use Rattle.std.specs.Prelude.{slice_range}
 use Prim.Native.Nat.{ℕ, suc, ◌+◌, ◌*◌, ◌-◌, ◌<◌, ◌≤◌}
 use native.Mathlib.Omega.{arith}
 use native.Mathlib.Nat.{mul-suc, mul-le-mul_left}
@@ -226,6 +227,41 @@ column_get {k} {pages} {p} {rows} col inside outside read none =
         | no n ↦ let z : rows ≤ p = omega arith in outside (inr z) ∙ no_row col p (none (inr z))
       ]
       | no n ↦ let z : pages ≤ k = omega arith in outside (inl z) ∙ no_row col p (none (inl z))
+    ]
+
+-- a page as a slice of the cells; where there is no such page it is empty
+slice_area : (from size : ℕ) (cells : List ℕ) → slice_range cells from (from + size) ≡ area from size cells
+unfolding area
+slice_area from size cells = let e : from + size - from ≡ size = omega arith in rw e
+
+both_none : (l m : List ℕ) → length l ≡ 0 → length m ≤ 0 → l ≡ m
+both_none [] [] e f = refl
+both_none [] (x ∷ m) e f = absurd (omega arith)
+both_none (x ∷ l) m e f = absurd (omega arith)
+
+pub device_slice : (pages k : ℕ) (cells : List ℕ) {r : List ℕ}
+    → (k < pages → r ≡ slice_range cells (0 + ROWS * k) (0 + ROWS * k + ROWS)) → (pages ≤ k → length r ≡ 0) → r ≡ device_col pages k cells
+unfolding device_col page
+device_slice pages k cells {r} inside outside =
+    elim (dec_lt k pages) [
+      | yes few ↦
+          let z : ROWS * suc k ≤ ROWS * pages = mul-le-mul_left ROWS (omega arith) in
+          let e = mul-suc ROWS k in
+          let start : 0 + ROWS * k ≡ ROWS * k = omega arith in
+          rw start at (inside few) ∙ slice_area (ROWS * k) ROWS cells ∙ sym (take_area (ROWS * pages) (ROWS * k) ROWS cells (omega arith))
+      | no n ↦ both_none _ _ (outside (omega arith)) (device_page cells 0 pages k (omega arith))
+    ]
+
+pub link_slice : (k : ℕ) (cells : List ℕ) {r : List ℕ}
+    → (k < LINKPAGES → r ≡ slice_range cells (LINKSAT + LINKS * k) (LINKSAT + LINKS * k + LINKS)) → (LINKPAGES ≤ k → length r ≡ 0) → r ≡ link_col k cells
+unfolding link_col page
+link_slice k cells {r} inside outside =
+    elim (dec_lt k LINKPAGES) [
+      | yes few ↦
+          let z : LINKS * suc k ≤ LINKS * LINKPAGES = mul-le-mul_left LINKS (omega arith) in
+          let e = mul-suc LINKS k in
+          inside few ∙ slice_area (LINKSAT + LINKS * k) LINKS cells ∙ sym (area_area LINKSAT (LINKS * LINKPAGES) (LINKS * k) LINKS cells (omega arith))
+      | no n ↦ both_none _ _ (outside (omega arith)) (link_page cells 0 k (omega arith))
     ]
 
 pub tail_read : (cells : List ℕ) (i : ℕ) → i < BYTENUMBERS → get_or (byte_tail cells) i 0 ≡ get_or cells (BYTETAIL + i) 0

@@ -3,7 +3,7 @@
 // numbers of the pages. Outside the pages and the rows a reader answers 0 and a setter changes nothing.
 #![tactic(auto)]
 
-ghost use Rattle.std.specs.Prelude.{◌≡◌, ◌⊎◌, List, ℕ, ◌+◌, ◌*◌, ◌<◌, ◌≤◌, get_or, set, length, MatchOption};
+ghost use Rattle.std.specs.Prelude.{◌≡◌, ◌⊎◌, List, ℕ, ◌+◌, ◌*◌, ◌<◌, ◌≤◌, get_or, set, length, slice_range, MatchOption};
 ghost use Rattle.model.specs.State.{with_callback, with_carry};
 ghost use Rattle.memory.specs.Layout.{BYTES, byte_col, link_col, word_col, state_in, WholeBytesBecome, WholeWordsBecome};
 ghost use Rattle.memory.specs.Cells.{with_count, with_links};
@@ -134,6 +134,19 @@ fn put<C: Copy>(cells: &mut [C], of: Block, page: usize, p: usize, v: C)
     }
 }
 
+// A page; empty where there is no such page.
+fn page_of<C>(cells: &[C], of: Block, page: usize) -> &[C]
+    requires { of.at + of.rows * of.many ≤ length cells.now }
+    ensures inside { page < of.many → result.now ≡ slice_range cells.now (of.at + of.rows * page) (of.at + of.rows * page + of.rows) }
+    ensures outside { of.many ≤ page → length result.now ≡ 0 }
+{
+    if of.many <= page {
+        return &[];
+    }
+    let from = of.at + of.rows * page;
+    &cells[from..from + of.rows]
+}
+
 pub fn byte_at<'a>(bytes: &'a [u8; BYTES], page: usize, p: usize) -> u8
     ensures { result ≡ get_or (byte_col page bytes.now) p 0 }
 {
@@ -168,6 +181,26 @@ pub fn set_word_at(words: &mut [u32; WORDS], page: usize, p: usize, v: u32)
     ensures { StoredWord page p v words.old words.new }
 {
     put(words, DEVICE_WORDS, page, p, v);
+}
+
+// ---- a page
+
+pub fn byte_page<'a>(bytes: &'a [u8; BYTES], page: usize) -> &'a [u8]
+    ensures { result.now ≡ byte_col page bytes.now }
+{
+    page_of(bytes, DEVICE_BYTES, page)
+}
+
+pub fn link_page<'a>(bytes: &'a [u8; BYTES], page: usize) -> &'a [u8]
+    ensures { result.now ≡ link_col page bytes.now }
+{
+    page_of(bytes, LINK_BYTES, page)
+}
+
+pub fn word_page<'a>(words: &'a [u32; WORDS], page: usize) -> &'a [u32]
+    ensures { result.now ≡ word_col page words.now }
+{
+    page_of(words, DEVICE_WORDS, page)
 }
 
 // ---- numbers

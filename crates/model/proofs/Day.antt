@@ -3,7 +3,7 @@
 use mathlib.Core.Path.{◌≡◌, refl}
 use mathlib.Core.List.{List, [], ◌∷◌, ◌++◌, flat_map}
 use Rattle.model.specs.Limits.{DEVICES, LINKS, ROWS}
-use Rattle.model.specs.Logic.{when◌then◌else◌, ◌and◌, ◌or◌, any, first, count, tally, column}
+use Rattle.model.specs.Logic.{when◌then◌else◌, any, first, count, tally, column}
 use Rattle.model.specs.Table.{mark_good, version_good, limits_good, length_good, parent_good, ends_good, before, device_good, link_fits, ascends, link_good, bad_device, bad_link, entries_answer, table_answer, cell, padded, wiring_in}
 use Rattle.model.specs.State.{is_child, is_live, child_count, link_count, children_of, linked_of, at_rest, loaded, load_of}
 use Rattle.model.specs.WakeSet.{marks_child, marks_consumer, belongs, sweep, wake_marks, in_wake, lowest}
@@ -14,7 +14,7 @@ use Rattle.model.specs.Day.{day_table, Row, row, day, Claim, claims, given, expe
 
 pub day_loads : (load_of day_table).answer ≡ record { number = 0; index = 0 }
 unfolding day_table load_of table_answer mark_good version_good limits_good length_good bad_device bad_link entries_answer
-    parent_good ends_good device_good link_fits ascends link_good before first when◌then◌else◌ ◌and◌ ◌or◌ DEVICES LINKS
+    parent_good ends_good device_good link_fits ascends link_good before first when◌then◌else◌ DEVICES LINKS
 day_loads = refl
 
 -- ---- "Slips we have seen", and the test program's suspend result -5
@@ -108,7 +108,7 @@ pub worked : Hold (claims ++ slips ++ codes)
 unfolding flat_map given expected claims slips codes day_table day
     load_of table_answer mark_good version_good limits_good length_good parent_good ends_good before device_good link_fits ascends link_good
     bad_device bad_link entries_answer cell padded wiring_in at_rest loaded DEVICES LINKS ROWS
-    when◌then◌else◌ ◌and◌ ◌or◌ any first count tally column
+    when◌then◌else◌ any first count tally column
     is_child is_live child_count link_count children_of linked_of marks_child marks_consumer belongs sweep wake_marks in_wake lowest
     kinds allowed fault enable disable get put suspend_test ask_suspend idle suspend barred others_barred ask_resume wake get_wake idle_unused put_idle
     running parent_down supplier_down set_active needed set_suspended ignore_children

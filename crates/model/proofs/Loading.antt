@@ -11,7 +11,7 @@ use native.Mathlib.Numerals.{add-one}
 use lib.ListN.{get_or, replicate, length-replicate, get_or-eq_default}
 use borrow.Author.Tests.{ltb-false, eq-eqb, ne_eqb, lt-ltb, le-ltb, not-false}
 use Rattle.model.specs.Limits.{DEVICES, LINKS, ROWS, NONE}
-use Rattle.model.specs.Logic.{when◌then◌else◌, ◌and◌, ◌or◌, first}
+use Rattle.model.specs.Logic.{when◌then◌else◌, first}
 use Rattle.model.specs.Table.{Wiring, TableAnswer, devices_in, links_in, device_byte, link_byte, limits_good, parent_good, ends_good, before, device_good, link_fits, ascends, link_good, bad_device, bad_link, entries_answer, table_answer, cell, padded, wiring_in}
 use Rattle.model.specs.State.{holds_at, is_child, is_live, child_count, link_count, children_of, linked_of, at_rest, loaded, empty_state, load_of}
 use Rattle.model.specs.Sound.{Column, Ordered, TableRules, none_open, Sound}

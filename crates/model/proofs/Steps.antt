@@ -12,7 +12,6 @@ use Rattle.model.specs.Records.{Rec, Done, LAST, RESULT, finished, refused, kind
 use Rattle.model.specs.Requests.{enable, disable, get, get_wake, put, put_idle, idle, suspend, wake, set_active, set_suspended, ignore_children}
 use Rattle.model.specs.Steps.{result, request, result_step, busy, record_step}
 use Rattle.model.proofs.Basics.{by_if, never, and_parts, or_none}
-use Rattle.model.specs.Logic.{◌and◌}
 use Rattle.model.proofs.Values.{waits}
 
 -- ---- kinds 1 to 12

@@ -8,7 +8,7 @@ use lib.IntN.{pos, neg_ℤ}
 use lib.Signed.{le_z}
 use borrow.Author.Tests.{ltb-true, leb-true, eqb-false, ne_eqb, not-true}
 use Rattle.model.specs.Limits.{MAXERROR, minus}
-use Rattle.model.specs.Logic.{◌and◌, ◌or◌, all}
+use Rattle.model.specs.Logic.{◌or◌, all}
 use Rattle.model.specs.Records.{LAST, RESULT, kinds, kind_of, allowed}
 use Rattle.model.proofs.Basics.{by_if, never, and_parts}
 use Rattle.model.proofs.Logic.{all_iff}

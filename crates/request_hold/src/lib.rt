@@ -10,6 +10,8 @@ use memory_rows::{depth, holds};
 use memory_stores::{set_depth, set_holds};
 use model::{EOVERFLOW, MAX_DEPTH, MAX_HOLDS};
 
+// The four requests are alike but for the column, the direction and the limit: one function for them would take all three, and be no plainer.
+
 // Kind 1: the code it is finished with.
 pub fn enable(bytes: &mut [u8; BYTES], p: u8) -> u16
     ensures { (words : List ℕ) → Does enable bytes.old words p bytes.new words result }

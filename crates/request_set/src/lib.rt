@@ -15,6 +15,7 @@ use memory_rows::{children, depth, error, ignore, linked, parent, status};
 use memory_stores::{set_error, set_ignore};
 use model::{ACTIVE, EAGAIN, EBUSY, LINKS, NONE, SUSPENDED};
 use request_answer::{Reply, finished};
+use suspend_test::has_children;
 
 // Disable depth 0 and no error: the status of device p cannot be set.
 fn running<'a>(bytes: &'a [u8; BYTES], words: &'a [u32; WORDS], p: u8) -> bool
@@ -86,8 +87,7 @@ pub fn set_active<'a>(
 fn needed<'a>(bytes: &'a [u8; BYTES], words: &'a [u32; WORDS], p: u8) -> bool
     ensures { result ≡ needed (state_in bytes.now words.now) p }
 {
-    let children = (0 < children(bytes, p)) & (ignore(bytes, p) == 0);
-    children | (0 < linked(words, p))
+    has_children(bytes, p) | (0 < linked(words, p))
 }
 
 // Kind 11.

@@ -106,7 +106,7 @@ fn resume_open<'a>(
 }
 
 // The open callback agrees with the devices. In a suspend callback, of kind 1, the device asked is suspending and no other is in change;
-// in an idle callback, of kind 3, it is active and none is.
+// in an idle callback, of kind 3, it is active and none is. The numbers are those of the memory's byte (document 01).
 fn callback_good<'a>(
     bytes: &'a [u8; BYTES],
     words: &'a [u32; WORDS],

@@ -1,30 +1,23 @@
 -- What the parts on values tell of the model's tests. Assumes nothing.
 use mathlib.Core.Path.{◌≡◌}
-use mathlib.Core.Bool.{Bool, not}
+use mathlib.Core.Bool.{not}
 use mathlib.Core.List.{List}
-use Prim.Native.Nat.{ℕ, ◌+◌, ◌≤◌, ◌%◌}
+use Prim.Native.Nat.{ℕ, ◌≤◌, ◌%◌}
 use native.Mathlib.Omega.{arith}
 use lib.ListN.{get_or}
 use lib.Dec.{eqb}
 use Rattle.model.specs.Limits.{NONE}
 use Rattle.model.specs.Logic.{◌and◌, bit}
-use Rattle.model.specs.Table.{Wiring, before}
+use Rattle.model.specs.Table.{Wiring}
 use Rattle.model.specs.State.{powered, is_child, is_live}
 use Rattle.model.proofs.Tallies.{bit_low}
 use Rattle.sound_rows.specs.Parts.{child_bit, live_bit}
-use Rattle.sound_columns.specs.Parts.{ascends_in}
 
 -- where a loop to n has ended
 pub last : (k n m : ℕ) → k ≤ n → n ≤ k → m ≡ n → k ≡ m
 last k n m a b e = omega arith
 
 -- ---- one device, one link
-pub ascends_at : {a b c d : ℕ} {r : Bool} (w : Wiring) (i : ℕ)
-    → a ≡ get_or w.consumer i 0 → b ≡ get_or w.supplier i 0 → c ≡ get_or w.consumer (i + 1) 0 → d ≡ get_or w.supplier (i + 1) 0
-    → r ≡ before a b c d → r ≡ ascends_in w i
-unfolding ascends_in
-ascends_at w i e f g h k = rw (k, e, f, g, h)
-
 pub child_low : (parent status : ℕ) → child_bit parent status ≤ 1
 unfolding child_bit
 child_low parent status = bit_low (powered status and not (eqb parent NONE))

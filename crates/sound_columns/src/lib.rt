@@ -10,7 +10,7 @@ ghost use Rattle.sound_rules.specs.Sayings.{Says};
 ghost use Rattle.sound_columns.specs.Parts.{ascends_in, wiring_test, devices_test, kept};
 ghost use Rattle.sound_columns.specs.Sayings.{SaysOf, ChildrenCounted, LinksCounted};
 
-use memory::{BYTES, WORDS};
+use memory::{BYTES, WORDS, link_page};
 use model::{DEVICES, LINKS, ROWS};
 use sound_rows::{
     byte_column, child_bit, comes_before, every, link_column, live_bit, same_bytes, same_words,
@@ -20,24 +20,17 @@ use sound_rules::{links_fit, links_supply, parents_good, parents_supply};
 
 // ---- the order of the links
 
-// Link i comes before the next.
-fn link_ascends<'a>(bytes: &'a [u8; BYTES], i: usize) -> bool
-    requires { i < LINKS }
-    ensures { Says (λ s. ascends_in s.wiring i) bytes.now result }
-{
-    comes_before(
-        memory_links::consumer(bytes, i),
-        memory_links::supplier(bytes, i),
-        memory_links::consumer(bytes, i + 1),
-        memory_links::supplier(bytes, i + 1),
-    )
-}
-
+// Each of the m links comes before the next.
 fn links_ascend<'a>(bytes: &'a [u8; BYTES], m: usize) -> bool
     requires { m ≤ LINKS }
     ensures { Says (λ s. all (ascends_in s.wiring) (m - 1)) bytes.now result }
 {
-    every(m.saturating_sub(1), |i| link_ascends(bytes, i))
+    let c = link_page(bytes, memory::CONSUMER);
+    let s = link_page(bytes, memory::SUPPLIER);
+    every(
+        m.saturating_sub(1),
+        |i| comes_before(c[i], s[i], c[i + 1], s[i + 1]),
+    )
 }
 
 // ---- the counts

@@ -10,8 +10,7 @@ ghost use Rattle.model.specs.SoundTest.{column_test, same_test};
 ghost use Rattle.memory.specs.Layout.{byte_col, link_col, word_col};
 ghost use Rattle.sound_rows.specs.Parts.{child_bit, live_bit};
 
-use basics::choose;
-use memory::{BYTES, WORDS, byte_at, link_at, word_at};
+use memory::{BYTES, WORDS, byte_at, byte_page, link_page, word_at, word_page};
 use model::{ACTIVE, LINKS, NONE, ROWS};
 
 // ---- columns
@@ -33,19 +32,25 @@ pub fn every<F: Fn(usize) -> bool>(n: usize, passes: F) -> bool
 pub fn byte_column<'a>(bytes: &'a [u8; BYTES], page: usize, n: usize, most: u8) -> bool
     ensures { result ≡ column_test ROWS n most (byte_col page bytes.now) }
 {
-    every(ROWS, |p| byte_at(bytes, page, p) <= choose(p < n, most, 0))
+    let page = byte_page(bytes, page);
+    let (used, rest) = page.split_at(n.min(page.len()));
+    every(used.len(), |p| used[p] <= most) & every(rest.len(), |p| rest[p] == 0)
 }
 
 pub fn link_column<'a>(bytes: &'a [u8; BYTES], page: usize, m: usize, most: u8) -> bool
     ensures { result ≡ column_test LINKS m most (link_col page bytes.now) }
 {
-    every(LINKS, |i| link_at(bytes, page, i) <= choose(i < m, most, 0))
+    let page = link_page(bytes, page);
+    let (used, rest) = page.split_at(m.min(page.len()));
+    every(used.len(), |i| used[i] <= most) & every(rest.len(), |i| rest[i] == 0)
 }
 
 pub fn word_column<'a>(words: &'a [u32; WORDS], page: usize, n: usize, most: u32) -> bool
     ensures { result ≡ column_test ROWS n most (word_col page words.now) }
 {
-    every(ROWS, |p| word_at(words, page, p) <= choose(p < n, most, 0))
+    let page = word_page(words, page);
+    let (used, others) = page.split_at(n.min(page.len()));
+    every(used.len(), |p| used[p] <= most) & every(others.len(), |p| others[p] == 0)
 }
 
 // A page holds the column given.

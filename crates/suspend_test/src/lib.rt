@@ -19,7 +19,7 @@ pub fn usage(holds: u32, linked: u32) -> u64
 }
 
 // Powered children that count keep device p awake.
-fn has_children<'a>(bytes: &'a [u8; BYTES], p: u8) -> bool
+pub fn has_children<'a>(bytes: &'a [u8; BYTES], p: u8) -> bool
     ensures { (words : List ℕ) → result ≡ has_children (state_in bytes.now words) p }
 {
     (0 < children(bytes, p)) & (ignore(bytes, p) == 0)

@@ -13,7 +13,7 @@ pub fn byte_at(t: &[u8], k: usize) -> u8
     t.get(k).copied().unwrap_or(0)
 }
 
-// A byte of the entry of device p: field 0 the parent, 1 the flags.
+// A byte of the entry of device p: field 0 the parent, 1 the flags. Fields go by number, as in `device_byte` of the model, for any u8.
 pub fn device_byte(t: &[u8], field: u8, p: u8) -> u8
     ensures { result ≡ device_byte t.now field p }
 {

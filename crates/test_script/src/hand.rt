@@ -1,9 +1,6 @@
 // The bench's memory: cells changed by hand, one record by the dispatch.
-use crate::texts;
-use crate::texts::say;
 use keeper_bench::Bench;
-use keeper_bench::methods::{Outcome, Requested};
-use memory::{BYTES, WORDS};
+use keeper_bench::methods::Requested;
 use record_kinds::Record;
 use std::io;
 use test_words::{name_in, number_in};
@@ -15,11 +12,8 @@ pub fn dispatched(b: Bench, r: Record) -> Requested {
     let first = links::index(&bytes, &words);
     let reply = record_step::step(&mut bytes, &mut words, &first, r);
     Requested {
-        outcome: Outcome::Replied(reply),
-        bench: Bench {
-            bytes: bytes,
-            words: words,
-        },
+        outcome: Ok(reply),
+        bench: Bench { bytes, words },
     }
 }
 
@@ -28,57 +22,27 @@ pub fn byte_in(line: &[u8], k: usize) -> u8 {
     (number_in(line, k) % 256) as u8
 }
 
-// A number of the whole bench, the open callback, or the carried bytes.
-fn set_whole(bytes: &mut [u8; BYTES], k: usize, line: &[u8]) {
-    let a = byte_in(line, 2);
-    let b = byte_in(line, 3);
-    let c = byte_in(line, 4);
-    match k {
-        8 => memory::set_devices(bytes, b),
-        9 => memory::set_callback(bytes, a, b, c),
-        _ => memory::set_carried(bytes, [b, c, byte_in(line, 5)], a),
-    }
-}
-
-// A cell of the bytes.
-fn set_byte(bytes: &mut [u8; BYTES], k: usize, line: &[u8]) {
-    let row = number_in(line, 2) as usize;
-    let x = byte_in(line, 3);
-    match k {
-        0..=4 => memory::set_byte_at(bytes, k, row, x),
-        5..=7 => memory::set_link_at(bytes, k - 5, row, x),
-        _ => set_whole(bytes, k, line),
-    }
-}
-
-// A cell of the words: of a device column, or the number of links.
-fn set_word(rt: &impl Print, words: &mut [u32; WORDS], k: usize, line: &[u8]) -> io::Result<()> {
-    let row = number_in(line, 2) as usize;
-    let v = number_in(line, 3);
-    match k {
-        11..=13 => memory::set_word_at(words, k - 11, row, v),
-        14 => memory::set_links(words, v),
-        _ => say(rt, texts::NO_FIELD)?,
-    }
-    Ok(())
-}
-
-// A cell changed by hand: `set FIELD ROW VALUE`. The fields of a page are named in the order of the pages.
+// A cell changed by hand: `set FIELD ROW VALUE`. The fields of a page are named in the order of the pages: five of the byte columns of
+// devices, three of the links', and after the numbers of the whole bench three of the word columns.
 pub fn set(rt: &impl Print, b: Bench, line: &[u8]) -> io::Result<Bench> {
     let mut bytes = b.bytes;
     let mut words = b.words;
-    let k = name_in(
-        b"parent ignore status depth children consumer supplier flags n callback carried holds error linked m",
-        line,
-        1,
-    );
-    if k < 11 {
-        set_byte(&mut bytes, k, line);
-    } else {
-        set_word(rt, &mut words, k, line)?;
+    let row = number_in(line, 2) as usize;
+    let value = number_in(line, 3);
+    let first = byte_in(line, 2);
+    let second = byte_in(line, 3);
+    let third = byte_in(line, 4);
+    let names =
+        b"parent ignore status depth children consumer supplier flags n callback carried holds error linked m";
+    match name_in(names, line, 1) {
+        Some(page @ 0..=4) => memory::set_byte_at(&mut bytes, page, row, second),
+        Some(k @ 5..=7) => memory::set_link_at(&mut bytes, k - 5, row, second),
+        Some(8) => memory::set_devices(&mut bytes, second),
+        Some(9) => memory::set_callback(&mut bytes, first, second, third),
+        Some(10) => memory::set_carried(&mut bytes, [second, third, byte_in(line, 5)], first),
+        Some(k @ 11..=13) => memory::set_word_at(&mut words, k - 11, row, value),
+        Some(14) => memory::set_links(&mut words, value),
+        _ => print!(rt; ": NO FIELD")?,
     }
-    Ok(Bench {
-        bytes: bytes,
-        words: words,
-    })
+    Ok(Bench { bytes, words })
 }

@@ -22,20 +22,15 @@
 // by byte.
 #![tactic(auto)]
 
-ghost use Rattle.std.specs.Prelude.{◌≤◌};
-
 mod hand;
 mod piece;
 mod record;
 mod show;
 mod tell;
-mod texts;
 
 use keeper_bench::Bench;
-use show::pick;
 use std::io;
 use test_words::name_in;
-use texts::{NOTHING, say};
 
 // The bench, and a number that is made of every reply since the table.
 #[derive(Clone, Copy)]
@@ -44,24 +39,36 @@ struct Play {
     replies: u64,
 }
 
-// How many can be kept, and those.
-const SLOTS: usize = 12;
-
+// What a line asks for; a record by its kind.
 #[derive(Clone, Copy)]
-struct Slots {
-    all: [Play; SLOTS],
+enum Command {
+    Record(u8),
+    Raw,
+    Feed,
+    Table,
+    Empty,
+    Set,
+    State,
+    Ask,
+    Wakes,
+    Save,
+    Back,
+    Same,
 }
+
+// How many can be kept.
+const SLOTS: usize = 12;
 
 // A prime below 2^47.
 const PRIME: u64 = 140737488355213;
 
 // The number made of the replies before and one more.
-fn mixed(before: u64, reply: u32) -> u64 {
-    (before % PRIME * 65537 + reply as u64 + 1) % PRIME
+fn mixed(before: u64, reply: [u8; 4]) -> u64 {
+    (before % PRIME * 65537 + u64::from(u32::from_le_bytes(reply)) + 1) % PRIME
 }
 
 // The place of the name under which a bench is kept.
-fn slot(line: &[u8]) -> usize {
+fn slot(line: &[u8]) -> Option<usize> {
     name_in(
         b"loaded enabled awake failed0 failed2 open first second last day one two",
         line,
@@ -70,171 +77,154 @@ fn slot(line: &[u8]) -> usize {
 }
 
 // What is kept under the name; what is at hand where there is none.
-fn kept(rt: &impl Print, play: Play, slots: Slots, line: &[u8]) -> io::Result<Play> {
-    let all = slots.all;
-    let s = slot(line);
-    if SLOTS <= s {
-        say(rt, texts::NO_NAME)?;
-        return Ok(play);
+fn kept(rt: &impl Print, play: Play, slots: &[Play; SLOTS], line: &[u8]) -> io::Result<Play> {
+    if let Some(s) = slot(line) {
+        if s < SLOTS {
+            return Ok(slots[s]);
+        }
     }
-    Ok(all[s])
-}
-
-// What is at hand kept under the name.
-fn saved(play: Play, slots: Slots, line: &[u8]) -> Slots {
-    let mut all = slots.all;
-    let s = slot(line);
-    if number(line) != SAVE {
-        return slots;
-    }
-    if SLOTS <= s {
-        return slots;
-    }
-    all[s] = play;
-    Slots { all: all }
-}
-
-fn compare(rt: &impl Print, play: Play, other: Play) -> io::Result<Play> {
-    let bench = test_same::same(play.bench, other.bench);
-    let replies = play.replies == other.replies;
-    say(rt, pick(bench, texts::SAME, texts::DIFFERENT))?;
-    say(rt, pick(replies, texts::SAME_REPLIES, texts::OTHER_REPLIES))?;
+    print!(rt; ": NO NAME")?;
     Ok(play)
+}
+
+// What is at hand kept under the name, if it is one of those that there are.
+fn save(rt: &impl Print, play: Play, slots: &mut [Play; SLOTS], line: &[u8]) -> io::Result<()> {
+    if let Some(s) = slot(line) {
+        if s < SLOTS {
+            slots[s] = play;
+            return Ok(());
+        }
+    }
+    print!(rt; ": NO NAME")
+}
+
+fn compare(rt: &impl Print, play: Play, other: Play) -> io::Result<()> {
+    let bench = if test_same::same(play.bench, other.bench) {
+        "same"
+    } else {
+        "DIFFERENT"
+    };
+    let replies = if play.replies == other.replies {
+        "same"
+    } else {
+        "different"
+    };
+    print!(rt; ": {bench}, replies {replies}")
 }
 
 fn fresh(bench: Bench) -> Play {
-    Play {
-        bench: bench,
-        replies: 0,
+    Play { bench, replies: 0 }
+}
+
+// Which command a line is. The kinds of records are numbered by their names, from 1.
+fn command_of(line: &[u8]) -> Option<Command> {
+    let names =
+        b"enable disable get getwake put putidle idle suspend wake setactive setsuspended ignore result record feed table empty set state ask wakes save back same";
+    match name_in(names, line, 0)? {
+        k @ 0..=12 => Some(Command::Record(k as u8 + 1)),
+        13 => Some(Command::Raw),
+        14 => Some(Command::Feed),
+        15 => Some(Command::Table),
+        16 => Some(Command::Empty),
+        17 => Some(Command::Set),
+        18 => Some(Command::State),
+        19 => Some(Command::Ask),
+        20 => Some(Command::Wakes),
+        21 => Some(Command::Save),
+        22 => Some(Command::Back),
+        23 => Some(Command::Same),
+        _ => None,
     }
 }
 
-fn set(rt: &impl Print, play: Play, line: &[u8]) -> io::Result<Play> {
-    Ok(Play {
-        bench: hand::set(rt, play.bench, line)?,
-        replies: play.replies,
-    })
+// The commands that take bytes, which stand after the first word, in a line of `feed` after the second. They are not done where the
+// bytes cannot be read.
+fn fed(rt: &impl Print, play: Play, command: Command, line: &[u8]) -> io::Result<Play> {
+    let mut s = [0u8; 65536];
+    let from = if let Command::Feed = command { 2 } else { 1 };
+    let n = match test_words::bytes_in(line, from, &mut s) {
+        Some(n) if n <= 65536 => n,
+        _ => {
+            print!(rt; ": NO BYTES")?;
+            return Ok(play);
+        }
+    };
+    match command {
+        Command::Raw => record::raw(rt, play, &s[..n]),
+        Command::Feed => piece::feed(rt, play, test_words::number_in(line, 1), &s[..n]),
+        _ => Ok(fresh(tell::table(rt, &s[..n])?)),
+    }
 }
 
 // The commands that only tell.
-fn told(rt: &impl Print, play: Play, k: usize, line: &[u8]) -> io::Result<Play> {
-    let bench = play.bench;
-    match k {
-        19 => tell::state(rt, bench, hand::byte_in(line, 1))?,
-        20 => tell::ask(rt, bench, line)?,
-        21 => tell::wakes(rt, bench, hand::byte_in(line, 1))?,
-        _ => say(rt, texts::NO_COMMAND)?,
+fn told(
+    rt: &impl Print,
+    play: Play,
+    slots: &[Play; SLOTS],
+    command: Command,
+    line: &[u8],
+) -> io::Result<()> {
+    match command {
+        Command::State => tell::state(rt, play.bench, hand::byte_in(line, 1)),
+        Command::Ask => tell::ask(rt, play.bench, line),
+        Command::Wakes => tell::wakes(rt, play.bench, hand::byte_in(line, 1)),
+        _ => compare(rt, play, kept(rt, play, slots, line)?),
     }
-    Ok(play)
-}
-
-// The commands on one bench, with the bytes that stand in the line.
-fn done(rt: &impl Print, play: Play, k: usize, line: &[u8], s: &[u8]) -> io::Result<Play> {
-    match k {
-        1..=13 => record::named(rt, play, k, line),
-        14 => record::raw(rt, play, s),
-        15 => piece::feed(rt, play, test_words::number_in(line, 1), s),
-        16 => Ok(fresh(tell::table(rt, s)?)),
-        17 => Ok(fresh(keeper::empty())),
-        18 => set(rt, play, line),
-        _ => told(rt, play, k, line),
-    }
-}
-
-// So many bytes of a buffer, none where they could not be read.
-fn read(count: usize) -> usize
-    ensures { result ≤ 65536 }
-{
-    if count <= 65536 {
-        return count;
-    }
-    0
-}
-
-// The same, with the bytes read: they stand after the first word, in a line of `feed` after the second. A command that needs bytes is
-// not done where they cannot be read.
-fn act(rt: &impl Print, play: Play, k: usize, line: &[u8]) -> io::Result<Play> {
-    let mut s = [0u8; 65536];
-    let from = pick(k == 15, 2, 1);
-    let count = test_words::bytes_in(line, from, &mut s);
-    if (65536 < count) & (13 < k) & (k < 17) {
-        say(rt, texts::NO_BYTES)?;
-        return Ok(play);
-    }
-    let n = read(count);
-    done(rt, play, k, line, &s[0..n])
-}
-
-const SAVE: usize = 22;
-
-// Which command a line is. The kinds of records are numbered by their names.
-fn number(line: &[u8]) -> usize {
-    name_in(
-        b"- enable disable get getwake put putidle idle suspend wake setactive setsuspended ignore result record feed table empty set state ask wakes save back same",
-        line,
-        0,
-    )
 }
 
 // A line that is a command.
-fn command(rt: &impl Print, play: Play, slots: Slots, line: &[u8]) -> io::Result<Play> {
-    let k = number(line);
-    match k {
-        22 => kept_name(rt, play, line),
-        23 => kept(rt, play, slots, line),
-        24 => compare(rt, play, kept(rt, play, slots, line)?),
-        _ => act(rt, play, k, line),
+fn act(rt: &impl Print, play: Play, slots: &mut [Play; SLOTS], line: &[u8]) -> io::Result<Play> {
+    let Some(command) = command_of(line) else {
+        print!(rt; ": NO COMMAND")?;
+        return Ok(play);
+    };
+    match command {
+        Command::Record(kind) => record::named(rt, play, kind, line),
+        Command::Raw | Command::Feed | Command::Table => fed(rt, play, command, line),
+        Command::Empty => Ok(fresh(keeper::empty())),
+        Command::Set => Ok(Play {
+            bench: hand::set(rt, play.bench, line)?,
+            replies: play.replies,
+        }),
+        Command::Save => {
+            save(rt, play, slots, line)?;
+            Ok(play)
+        }
+        Command::Back => kept(rt, play, slots, line),
+        _ => {
+            told(rt, play, slots, command, line)?;
+            Ok(play)
+        }
     }
 }
 
-// A name to keep a bench under is one of those that there are.
-fn kept_name(rt: &impl Print, play: Play, line: &[u8]) -> io::Result<Play> {
-    say(rt, pick(slot(line) < SLOTS, NOTHING, texts::NO_NAME))?;
-    Ok(play)
-}
-
-fn end_line(rt: &impl Print) -> io::Result<()> {
-    show::text(rt, b"\n")
-}
-
 // A line: a note, a title, or a command and its answer.
-fn line(rt: &impl Print, play: Play, slots: Slots, s: &[u8]) -> io::Result<Play> {
+fn line(rt: &impl Print, play: Play, slots: &mut [Play; SLOTS], s: &[u8]) -> io::Result<Play> {
     let first = test_words::byte_at(s, 0);
     if (first == 0) | (first == b';') {
         return Ok(play);
     }
-    show::text(rt, s)?;
+    rt.write_all(s)?;
     if first == b'#' {
-        end_line(rt)?;
+        rt.write_all(b"\n")?;
         return Ok(play);
     }
-    let next = command(rt, play, slots, s)?;
-    end_line(rt)?;
+    let next = act(rt, play, slots, s)?;
+    rt.write_all(b"\n")?;
     Ok(next)
-}
-
-// Every line of a script.
-fn lines(rt: &impl Print, s: &[u8]) -> io::Result<()> {
-    let mut play = fresh(keeper::empty());
-    let mut slots = Slots { all: [play; SLOTS] };
-    let mut at: usize = 0;
-    while at < s.len() {
-        let end = test_words::scan(s, at, b'\n', true);
-        let one = &s[at..end];
-        play = line(rt, play, slots, one)?;
-        slots = saved(play, slots, one);
-        if s.len() <= end {
-            return Ok(());
-        }
-        at = end + 1;
-    }
-    Ok(())
 }
 
 // The script of standard input. It is read whole, so it has to be shorter than the buffer.
 pub fn run(rt: &(impl Input + Print)) -> io::Result<()> {
     let mut text = [0u8; 65536];
     let n = test_words::read_input(rt, &mut text)?;
-    say(rt, pick(n < 65536, NOTHING, texts::TOO_LONG))?;
-    lines(rt, &text[..n])
+    if n == 65536 {
+        print!(rt; "SCRIPT TOO LONG")?;
+    }
+    let mut play = fresh(keeper::empty());
+    let mut slots = [play; SLOTS];
+    for s in text[..n].split(|b| *b == b'\n') {
+        play = line(rt, play, &mut slots, s)?;
+    }
+    Ok(())
 }

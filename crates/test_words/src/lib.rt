@@ -8,7 +8,8 @@ ghost use Rattle.test_words.specs.Numbers.{digit_of, joined, value_after, minus,
 use std::io;
 use std::io::Read;
 
-// What stands for a number that cannot be read: one more than the greatest.
+// What stands for a number that cannot be read: one more than the greatest. Callers take it as a row, a value or a room past all others,
+// so an Option would be unwrapped to it at each of them.
 pub const WRONG: u32 = 65536;
 
 // The most names that are looked through.
@@ -32,6 +33,7 @@ fn stops(x: u8, byte: u8, same: bool) -> bool
 }
 
 // The first place from `from` on where the byte stands, or where another stands; the end where there is none.
+// The flag stays: `Scanned` and the callers name a byte and a flag.
 pub fn scan(s: &[u8], from: usize, byte: u8, same: bool) -> usize
     ensures { Scanned byte same s.now from result }
 {

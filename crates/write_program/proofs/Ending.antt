@@ -12,8 +12,8 @@ use Rattle.model.proofs.Basics.{never}
 use Rattle.replay_text.specs.declared.line.Line.{Line}
 use Rattle.replay_text.specs.Line.{line_of}
 use Rattle.list_report.specs.Lines.{refused_text, nowhere_text}
-use Rattle.list_make.specs.declared.Made.{Made}
-use Rattle.list_make.specs.declared.Made.TheVariants.{Written, Large, Wrong, Refused}
+use Rattle.std.specs.Prelude.{Result, Ok, Err}
+use Rattle.list_make.specs.declared.Failure.{Failure}
 use Rattle.list_make.specs.declared.Refusal.{Refusal}
 use Rattle.list_make.specs.Making.{MakesOf}
 use Rattle.program_end.specs.declared.End.{End}
@@ -32,8 +32,8 @@ module _ (r : Refusal) {n i : ℕ} {l : Line} (number : n ≡ r.number) (index :
   in_a_line z e = rw (ne_eqb r.line 0 z, ← number, ← index) e
 
 -- ---- an end, by the variant
-pub ended : (g : Made) {m : Made} {r : End} → m ≡ g → ends_by g r → EndsBy m r
-ended g {m} {r} e h = record { ends = subst (λ (x : Made). ends_by x r) (sym e) h }
+pub ended : (g : Result ℕ Failure) {m : Result ℕ Failure} {r : End} → m ≡ g → ends_by g r → EndsBy m r
+ended g {m} {r} e h = record { ends = subst (λ (x : Result ℕ Failure). ends_by x r) (sym e) h }
 
 abbrev is_done : End → Bool
 is_done end.Done = true
@@ -46,16 +46,14 @@ not_done : {A : Type 0} {r : End} → (r ≡ end.Refused) ⊎ (r ≡ end.Failed)
 not_done h e = ⊎_elim (λ f. never (ap is_done e) (ap is_done f)) (λ f. never (ap is_done e) (ap is_done f)) h
 
 -- only a table ends with 0
-tabled : (m : Made) {r : End} → ends_by m r → r ≡ end.Done → (size : ℕ) × (m ≡ Written size)
-tabled (Written s) h e = (s, refl)
-tabled (Large l) h e = not_done h e
-tabled (Wrong l) h e = not_done h e
-tabled (Refused x) h e = not_done h e
+tabled : (m : Result ℕ Failure) {r : End} → ends_by m r → r ≡ end.Done → (size : ℕ) × (m ≡ Ok size)
+tabled (Ok s) h e = (s, refl)
+tabled (Err f) h e = not_done h e
 
-pub list_ends : (text buffer : List ℕ) (made : Made) {after : List ℕ} {r : End} → 7 + 2 * DEVICES + 3 * LINKS ≤ length buffer → MakesOf text buffer made after → EndsBy made r
+pub list_ends : (text buffer : List ℕ) (made : Result ℕ Failure) {after : List ℕ} {r : End} → 7 + 2 * DEVICES + 3 * LINKS ≤ length buffer → MakesOf text buffer made after → EndsBy made r
     → ListEnds text r
 list_ends text buffer made {after} {r} room m h =
     record {
-      good = λ g. subst (λ (x : Made). ends_by x r) (becomes text buffer room g m) h.ends;
+      good = λ g. subst (λ (x : Result ℕ Failure). ends_by x r) (becomes text buffer room g m) h.ends;
       done = λ e. let t = tabled made h.ends e in good (found text buffer t.0 t.1 m);
     }

@@ -14,29 +14,24 @@ use Rattle.model.specs.Table.{TableAnswer}
 use Rattle.model.specs.Writing.{table_of, Writing, written}
 use Rattle.model.proofs.Basics.{never}
 use Rattle.writer_laws.proofs.Given.{Given, limits, devices_whole_lem, table_long, given_good, good_given, given_writes, writes_given}
-use Rattle.list_text.specs.declared.Fault.{Fault}
-use Rattle.list_text.specs.declared.Fault.TheVariants as fault
+use Rattle.std.specs.Prelude.{Result, ⊤, Ok, Err}
+use Rattle.list_text.specs.declared.Faulty.{Faulty}
 use Rattle.list_text.specs.Texts.{fault_in}
-use Rattle.list_make.specs.declared.Made.{Made}
-use Rattle.list_make.specs.declared.Made.TheVariants.{Written, Large, Wrong, Refused}
+use Rattle.list_make.specs.declared.Failure.{Failure}
 use Rattle.list_make.specs.Making.{listed_devices, listed_links, writing_in, made_from, Makes, makes_by, MakesOf}
 use Rattle.list_make.proofs.Telling.{table_told}
 use Rattle.write_program.specs.Ends.{Good, MadeFor}
 
 -- ---- the variants told apart
-abbrev is_table : Made → Bool
-is_table (Written s) = true
-is_table (Large l) = false
-is_table (Wrong l) = false
-is_table (Refused r) = false
+abbrev is_table : Result ℕ Failure → Bool
+is_table (Ok s) = true
+is_table (Err f) = false
 
-abbrev size_of : Made → ℕ
-size_of (Written s) = s
-size_of (Large l) = 0
-size_of (Wrong l) = 0
-size_of (Refused r) = 0
+abbrev size_of : Result ℕ Failure → ℕ
+size_of (Ok s) = s
+size_of (Err f) = 0
 
-pub no_table : {A : Type 0} {m : Made} {s : ℕ} → m ≡ Written s → is_table m ≡ false → A
+pub no_table : {A : Type 0} {m : Result ℕ Failure} {s : ℕ} → m ≡ Ok s → is_table m ≡ false → A
 no_table e f = never (ap is_table e) f
 
 refusal_no_table : (text : List ℕ) (a : TableAnswer) (size : ℕ) → (a.number ≡ 0 → ⊥) → is_table (made_from text a size) ≡ false
@@ -45,13 +40,13 @@ refusal_no_table text a size n = rw (ne_eqb a.number 0 n)
 
 -- ---- a text that has become a table of that size
 pub record Found (text buffer new : List ℕ) (s : ℕ) : Type 0 where
-  pub lines : fault_in text ≡ fault.Nothing
+  pub lines : fault_in text ≡ Ok tt
   pub number : (writing_in text buffer).answer.number ≡ 0
   pub size : s ≡ length (table_of (listed_devices text) (listed_links text))
   pub after : new ≡ (writing_in text buffer).buffer
 
-module _ (text buffer : List ℕ) {made : Made} {after : List ℕ} (size : ℕ) (e : made ≡ Written size) where
-  from_makes : fault_in text ≡ fault.Nothing → Makes text buffer made after → Found text buffer after size
+module _ (text buffer : List ℕ) {made : Result ℕ Failure} {after : List ℕ} (size : ℕ) (e : made ≡ Ok size) where
+  from_makes : fault_in text ≡ Ok tt → Makes text buffer made after → Found text buffer after size
   from_makes l m =
       let a = (writing_in text buffer).answer in
       let t = length (table_of (listed_devices text) (listed_links text)) in
@@ -60,10 +55,9 @@ module _ (text buffer : List ℕ) {made : Made} {after : List ℕ} (size : ℕ) 
         | no n ↦ no_table e (ap is_table m.made ∙ refusal_no_table text a t n)
       ]
 
-  by_fault : (f : Fault) → fault_in text ≡ f → makes_by f text buffer made after → Found text buffer after size
-  by_fault fault.Nothing k m = from_makes k m
-  by_fault (fault.Large n) k m = no_table e (ap is_table m.0)
-  by_fault (fault.Wrong n) k m = no_table e (ap is_table m.0)
+  by_fault : (f : Result ⊤ Faulty) → fault_in text ≡ f → makes_by f text buffer made after → Found text buffer after size
+  by_fault (Ok u) k m = from_makes k m
+  by_fault (Err f) k m = no_table e (ap is_table m.0)
 
   pub found : MakesOf text buffer made after → Found text buffer after size
   found m = by_fault (fault_in text) refl m.told
@@ -92,7 +86,7 @@ module _ {text buffer after : List ℕ} {size : ℕ} (f : Found text buffer afte
   at_front = rw laid (take_at table _ size (sym f.size))
 
 -- ---- so where there is a table, its bytes can be handed on
-pub made_for : (text buffer : List ℕ) {made : Made} {after : List ℕ} → MakesOf text buffer made after → MadeFor text made after
+pub made_for : (text buffer : List ℕ) {made : Result ℕ Failure} {after : List ℕ} → MakesOf text buffer made after → MadeFor text made after
 made_for text buffer m =
     record {
       room = λ size e. fits (found text buffer size e m);
@@ -100,8 +94,8 @@ made_for text buffer m =
     }
 
 -- ---- and a good text becomes one, where the buffer has room for the longest table
-pub becomes : (text buffer : List ℕ) {made : Made} {after : List ℕ} → 7 + 2 * DEVICES + 3 * LINKS ≤ length buffer → Good text → MakesOf text buffer made after
-    → made ≡ Written (length (table_of (listed_devices text) (listed_links text)))
+pub becomes : (text buffer : List ℕ) {made : Result ℕ Failure} {after : List ℕ} → 7 + 2 * DEVICES + 3 * LINKS ≤ length buffer → Good text → MakesOf text buffer made after
+    → made ≡ Ok (length (table_of (listed_devices text) (listed_links text)))
 becomes text buffer {made} {after} room g m =
     let h = good_given (listed_devices text) (listed_links text) g.lists in
     let t = table_of (listed_devices text) (listed_links text) in
@@ -109,5 +103,5 @@ becomes text buffer {made} {after} room g m =
     let few = limits h in
     let whole = devices_whole_lem h in
     let w = given_writes h buffer (omega arith) in
-    let k = subst (λ (f : Fault). makes_by f text buffer made after) g.lines m.told in
+    let k = subst (λ (f : Result ⊤ Faulty). makes_by f text buffer made after) g.lines m.told in
     k.made ∙ sym (table_told text (writing_in text buffer).answer (length t) (ap (λ (x : Writing). x.answer.number) w))

@@ -4,13 +4,13 @@
 ghost use Rattle.std.specs.Prelude.{◌≡◌, ◌⊎◌};
 ghost use Rattle.write_program.specs.Ends.{TableFor, refusal_line, MadeFor, EndsBy, ListEnds};
 
-use basics::{long8, long16};
-use list_make::{Made, Refusal};
-use program_end::{End, status};
+use list_lines::entries::Fault;
+use list_make::{Failure, Refusal};
+use program_end::End;
 use program_files::{arg_count, close, say};
 use replay_text::line::Line;
 use std::fs::OpenFile;
-use std::io::{Result, Write};
+use std::io::Write;
 use std::rt::Runtime;
 
 // Tells why a list is turned away.
@@ -27,8 +27,8 @@ fn tell(rt: &impl Runtime, line: Line) -> End
 fn refusal(r: Refusal) -> Line
     ensures { result ≡ refusal_line r }
 {
-    let number = long8(r.number);
-    let index = long16(r.index);
+    let number = u64::from(r.number);
+    let index = u64::from(r.index);
     let line = r.line;
     if line == 0 {
         return list_report::nowhere(number, index);
@@ -36,8 +36,19 @@ fn refusal(r: Refusal) -> Line
     list_report::refused(number, index, line as u64)
 }
 
+// The line that tells why a list is turned away.
+fn reason(failure: Failure) -> Line {
+    match failure {
+        Failure::Line(faulty) => match faulty.fault {
+            Fault::Large => list_report::large(faulty.line as u64),
+            Fault::Wrong => list_report::wrong(faulty.line as u64),
+        },
+        Failure::Refused(r) => refusal(r),
+    }
+}
+
 // Writes the bytes to an open file and closes it.
-fn stored(mut file: impl Write + OpenFile + Drop, table: &[u8]) -> Result<()> {
+fn stored(mut file: impl Write + OpenFile + Drop, table: &[u8]) -> std::io::Result<()> {
     file.write_all(table)?;
     close(file)
 }
@@ -49,8 +60,7 @@ fn store(rt: &impl Runtime, text: &[u8], table: &[u8]) -> End
 {
     let mut path = io::buffer();
     let opened = program_files::opened(rt, b"write: ", 2, b"TABLE", &mut path, true);
-    let length = opened.length;
-    let Ok(file) = opened.file else {
+    let Ok((file, length)) = opened else {
         return End::Failed;
     };
     let Err(error) = stored(file, table) else {
@@ -61,15 +71,13 @@ fn store(rt: &impl Runtime, text: &[u8], table: &[u8]) -> End
 }
 
 // What is done with a list that has become this.
-fn finish(rt: &impl Runtime, text: &[u8], made: Made, table: &[u8]) -> End
+fn finish(rt: &impl Runtime, text: &[u8], made: Result<usize, Failure>, table: &[u8]) -> End
     requires { MadeFor text.now made table.now }
     ensures { EndsBy made result }
 {
     match made {
-        Made::Written(size) => store(rt, text, &table[..size]),
-        Made::Large(line) => tell(rt, list_report::large(line as u64)),
-        Made::Wrong(line) => tell(rt, list_report::wrong(line as u64)),
-        Made::Refused(r) => tell(rt, refusal(r)),
+        Ok(size) => store(rt, text, &table[..size]),
+        Err(failure) => tell(rt, reason(failure)),
     }
 }
 
@@ -85,11 +93,9 @@ fn write(rt: &impl Runtime, text: &[u8]) -> End
 // Reads the list whose name is argument 1, and writes its table. A list that fills the buffer is longer than is taken.
 fn begin(rt: &impl Runtime) -> End {
     let mut text = io::large_buffer();
-    let read = program_files::first_bytes(rt, b"write: ", b"LIST", &mut text);
-    if read.failed.is_some() {
+    let Ok(count) = program_files::first_bytes(rt, b"write: ", b"LIST", &mut text) else {
         return End::Failed;
-    }
-    let count = read.count;
+    };
     if 65536 <= count {
         return tell(rt, list_report::long());
     }
@@ -100,11 +106,11 @@ fn begin(rt: &impl Runtime) -> End {
 pub fn run(rt: &impl Runtime) -> u8 {
     if arg_count(rt, 4) != 3 {
         say(rt, b"usage: write LIST TABLE\n");
-        return status(End::Wrong);
+        return u8::from(End::Wrong);
     }
     if program_files::same_name(rt, 1, 2) {
         say(rt, b"write: TABLE has the name of LIST\n");
-        return status(End::Wrong);
+        return u8::from(End::Wrong);
     }
-    status(begin(rt))
+    u8::from(begin(rt))
 }

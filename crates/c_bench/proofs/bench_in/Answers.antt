@@ -5,8 +5,8 @@ use Rattle.model.specs.Limits.{ROWS, LINKS}
 use Rattle.model.specs.State.{State}
 use Rattle.memory.specs.Layout.{BYTES, WORDS}
 use Rattle.saved_form.specs.Form.{FORM}
-use Rattle.saved_form.specs.Restoring.{judged_of, restore_of}
-use Rattle.saved_read.proofs.Judging.{judged_empty, read_judged}
+use Rattle.saved_form.specs.Restoring.{Restored, judged_of}
+use Rattle.saved_read.proofs.Judging.{judged_empty, refused_judged, restore_read}
 use Rattle.c_calls.specs.Bytes.{bench_in}
 use Rattle.c_calls.proofs.Beginning.{bench_in_lem, bench_short}
 use Rattle.c_bench.proofs.bench_in.Goals as goal
@@ -19,8 +19,18 @@ returns-then-state-lt-FORM c =
     record { judged = ap (λ (s : State). (judged_of s).state) c.empty.ensures ∙ judged_empty ∙ sym short }
 
 -- read
-pub returns : goal.returns
-unfolding FORM BYTES WORDS ROWS LINKS restore_of bench_in
-returns c =
-    let read = c.read-cells in
-    record { judged = read_judged _ read.result read.ensures ∙ sym (bench_in_lem c.args.state.now) }
+pub returns-in-Ok : goal.returns-in-Ok
+unfolding FORM BYTES WORDS ROWS LINKS bench_in
+returns-in-Ok c =
+    record { judged = ap (λ (r : Restored). r.state) (restore_read _ c.in-Ok.cells c.in-Ok.ensures) ∙ sym (bench_in_lem c.args.state.now) }
+
+-- refused
+pub returns-in-Err : goal.returns-in-Err
+unfolding FORM BYTES WORDS ROWS LINKS bench_in
+returns-in-Err c =
+    record {
+      judged =
+          ap (λ (s : State). (judged_of s).state) c.empty-in-Err.ensures
+          ∙ refused_judged _ c.in-Err.field-0 c.in-Err.ensures
+          ∙ sym (bench_in_lem c.args.state.now);
+    }

@@ -51,4 +51,5 @@ returns c =
     let a = c.args in
     let n = c.gather-n.ensures.bytes in
     let m = c.gather-m.ensures.bytes in
-    makes a.text.now a.table.now _ (given_same a.table.now c.write-outcome.ensures (devices (goal.at.returns c).Else-m-gt-LINK_BYTES) (links (goal.at.returns c).Else-m-gt-LINK_BYTES)) c.told-2.ensures (λ z. omega arith)
+    makes a.text.now a.table.now _ (given_same a.table.now c.write-outcome.ensures (devices (goal.at.returns c).Else-m-gt-LINK_BYTES)
+    (links (goal.at.returns c).Else-m-gt-LINK_BYTES)) c.told-2.ensures (λ z. omega arith)

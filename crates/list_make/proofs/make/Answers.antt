@@ -4,16 +4,9 @@ use Rattle.list_make.proofs.Telling.{by_fault}
 use Rattle.list_make.proofs.make.Goals as goal
 
 -- none
-pub returns-in-Nothing : goal.returns-in-Nothing
-returns-in-Nothing c =
-    by_fault _ c.fault_in-fault.ensures c.in-Nothing.is c.compile.ensures
+pub returns-in-Ok : goal.returns-in-Ok
+returns-in-Ok c = by_fault _ c.fault_in.ensures c.in-Ok.is c.compile.ensures
 
--- a number over 255
-pub returns-in-Large : goal.returns-in-Large
-returns-in-Large c =
-    by_fault _ c.fault_in-fault.ensures c.in-Large.is (refl, refl)
-
--- a line of another sort
-pub returns-in-Wrong : goal.returns-in-Wrong
-returns-in-Wrong c =
-    by_fault _ c.fault_in-fault.ensures c.in-Wrong.is (refl, refl)
+-- one
+pub returns-in-Err : goal.returns-in-Err
+returns-in-Err c = by_fault _ c.fault_in.ensures c.in-Err.is (refl, refl)

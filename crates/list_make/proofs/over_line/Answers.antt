@@ -7,9 +7,9 @@ use Rattle.list_make.proofs.over_line.Goals as goal
 pub returns-then-line-eq0 : goal.returns-then-line-eq0
 unfolding DEVICES LINKS
 returns-then-line-eq0 c =
-    over_link _ c.line_of-line.ensures c.if-line-eq0.true c.line_of.ensures
+    over_link _ (rw c.from.ensures at c.line_of-line.ensures) c.if-line-eq0.true c.line_of.ensures
 
 -- one is
 pub returns : goal.returns
 unfolding DEVICES
-returns c = over_device _ c.line_of-line.ensures c.if-line-eq0.false
+returns c = over_device _ (rw c.from.ensures at c.line_of-line.ensures) c.if-line-eq0.false

@@ -1,10 +1,15 @@
--- `sound_rows::word_column` meets its contract: each row is tested as the column's. Assumes nothing.
+-- `sound_rows::word_column` meets its contract: the rows in use and the others make the column. Assumes nothing.
+use native.Mathlib.Omega.{arith}
 use borrow.Author.Rules.{rules}
 use Rattle.model.specs.Limits.{ROWS}
-use Rattle.model.specs.SoundTest.{column_test}
-use Rattle.sound_rows.proofs.Reading.{row_low}
+use Rattle.memory.specs.Layout.{WORDPAGES}
+use Rattle.memory.proofs.Pages.{device_row}
+use Rattle.sound_rows.proofs.Reading.{column_parts}
 use Rattle.sound_rows.proofs.word_column.Goals as goal
 
 pub returns : goal.returns
-unfolding column_test ROWS
-returns c = c.every.ensures _ (λ k r l e. row_low _ _ _ _ (search rules))
+unfolding ROWS
+returns c =
+    let cut = c.split_at.ensures in
+    column_parts ROWS _ _ _ _ c.word_page-page.ensures (device_row _ ROWS WORDPAGES _ (omega arith)) c.min.ensures cut.front_len cut.back_len cut.by_index.1 cut.by_index.2
+    (c.every.ensures _ (λ k r l e. search rules)) (c.every-2.ensures _ (λ k r l e. search rules))

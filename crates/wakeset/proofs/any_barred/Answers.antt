@@ -8,7 +8,3 @@ loop-q-init c = heard_start
 
 pub loop-q-preserved : goal.loop-q-preserved
 loop-q-preserved c = rw (c.bars.ensures, c.from.ensures) (heard_more (omega arith) c.loop-q.invariant)
-
--- no device is left
-pub returns : goal.returns
-returns c = heard_end (omega arith) (λ l. omega arith) c.loop-q.invariant

@@ -6,24 +6,16 @@ use Rattle.write_program.proofs.finish.Goals as goal
 
 pub slice_bounds-store-end : goal.slice_bounds-store-end
 slice_bounds-store-end g c =
-    sym (length-take-le _ _ (c.requires.room _ c.in-Written.is))
+    sym (length-take-le _ _ (c.requires.room _ c.in-Ok.is))
 
 pub store-requires : goal.store-requires
 store-requires g c =
-    c.requires.table _ c.in-Written.is
+    c.requires.table _ c.in-Ok.is
 
 -- the table
-pub returns-in-Written : goal.returns-in-Written
-returns-in-Written g c = ended _ c.in-Written.is c.store.ensures
+pub returns-in-Ok : goal.returns-in-Ok
+returns-in-Ok g c = ended _ c.in-Ok.is c.store.ensures
 
--- a number over 255
-pub returns-in-Large : goal.returns-in-Large
-returns-in-Large g c = ended _ c.in-Large.is c.tell.ensures
-
--- a line of another sort
-pub returns-in-Wrong : goal.returns-in-Wrong
-returns-in-Wrong g c = ended _ c.in-Wrong.is c.tell-in-Wrong.ensures
-
--- a refusal
-pub returns-in-Refused : goal.returns-in-Refused
-returns-in-Refused g c = ended _ c.in-Refused.is c.tell-in-Refused.ensures
+-- no table
+pub returns-in-Err : goal.returns-in-Err
+returns-in-Err g c = ended _ c.in-Err.is c.tell.ensures

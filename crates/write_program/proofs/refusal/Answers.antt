@@ -5,9 +5,9 @@ use Rattle.write_program.proofs.refusal.Goals as goal
 -- a fault that stands in no line
 pub returns-then-line-eq0 : goal.returns-then-line-eq0
 returns-then-line-eq0 c =
-    in_no_line _ c.long8-number.ensures c.long16-index.ensures c.if-line-eq0.true c.nowhere.ensures
+    in_no_line _ c.from-number.ensures c.from-index.ensures c.if-line-eq0.true c.nowhere.ensures
 
 -- one that does
 pub returns : goal.returns
 returns c =
-    in_a_line _ c.long8-number.ensures c.long16-index.ensures c.if-line-eq0.false c.refused.ensures
+    in_a_line _ c.from-number.ensures c.from-index.ensures c.if-line-eq0.false c.refused.ensures

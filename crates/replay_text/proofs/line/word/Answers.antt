@@ -32,5 +32,6 @@ unfolding added when◌then◌else◌
 returns c =
     let start = c.args in
     let h : start.line.used + length start.text.now ≤ 256 = omega arith in
-    let p = put_mid-paste start.line.used (start.line.used + length start.text.now - start.line.used) start.line.bytes c.copy_from_slice.new.self start.text.now (length start.text.now) c.copy_from_slice.ensures.after (omega arith) refl in
+    let p = put_mid-paste start.line.used (start.line.used + length start.text.now - start.line.used) start.line.bytes c.copy_from_slice.new.self
+    start.text.now (length start.text.now) c.copy_from_slice.ensures.after (omega arith) refl in
     rw (le-leb _ _ h, p, take-length start.text.now)
