@@ -10,7 +10,7 @@ ghost use Rattle.export_cells.specs.Cells.{numbers_of, cell_of, CellSet, NumberS
 
 use memory::{BYTES, WORDS};
 
-// The low byte of a word.
+// The low byte of a word: `as` may lose nothing, so the rest is cut first.
 fn low(x: u32) -> u8
     ensures { result ≡ x % 256 }
 {

@@ -6,7 +6,7 @@ ghost use Rattle.memory.specs.Layout.{BYTES, WORDS};
 
 use memory::{BYTES, WORDS};
 
-// How many bytes a bench has, and how many words.
+// How many bytes a bench has, and how many words. `as`: constants, and the library's `try_from` would answer what cannot fail.
 #[unsafe(no_mangle)]
 pub extern "C" fn tests_bytes() -> u32
     ensures { result ≡ BYTES }

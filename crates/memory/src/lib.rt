@@ -11,7 +11,7 @@ ghost use Rattle.memory.specs.Stored.{Stored, StoredLink, StoredWord};
 
 use model::{LINKS, ROWS};
 
-// Pages of bytes with a row for each device.
+// Pages of bytes with a row for each device. A page is a number: `byte_at` and its like answer for every number (`byte_col`), also for no page.
 pub const PARENT: usize = 0;
 
 pub const IGNORE: usize = 1;
@@ -244,7 +244,7 @@ pub fn carried<'a>(bytes: &'a [u8; BYTES], i: usize) -> u8
     bytes[CARRIED + i]
 }
 
-// The three carried bytes.
+// The three carried bytes, cell by cell: a slice would have to be made an array again.
 pub fn carry<'a>(bytes: &'a [u8; BYTES]) -> [u8; 3]
     ensures { (words : List ℕ) → BYTES ≤ length bytes.now → result ≡ (state_in bytes.now words).carry.bytes }
 {

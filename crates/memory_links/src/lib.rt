@@ -1,5 +1,5 @@
 // A reader and a setter for each link column of the memory, by the number of a link. Each names its page; where the page stands `memory`
-// knows. Past the rows a reader answers 0 and a setter changes nothing.
+// knows. Past the rows a reader answers 0 and a setter changes nothing. A function for each: each promises another column of the state.
 #![tactic(auto, unfolding(memory::specs::Layout::state_in))]
 
 ghost use Rattle.std.specs.Prelude.{◌≡◌, List, ℕ, get_or};

@@ -1,5 +1,5 @@
 // A reader for each device column of the memory, by the number of a device, which always has a row. Each names its page; where the page
-// stands `memory` knows.
+// stands `memory` knows. A function for each: each promises another column of the state.
 #![tactic(auto, unfolding(memory::specs::Layout::state_in))]
 
 ghost use Rattle.std.specs.Prelude.{◌≡◌, List, ℕ, get_or};

@@ -1,5 +1,5 @@
 // A setter for each device column of the memory, by the number of a device, which always has a row. Each names its page; where the page
-// stands `memory` knows.
+// stands `memory` knows. A function for each: each promises another column of the state.
 #![tactic(auto)]
 
 ghost use Rattle.model.specs.State.{with_holds, with_depth, with_error, with_ignore};

@@ -52,7 +52,8 @@ pub const RESULT: u8 = 13;
 #[derive(Clone, Copy)]
 struct Bounds(i16, i16);
 
-// The least and greatest value allowed for each kind.
+// The least and greatest value allowed for each kind: a table of pairs indexed by the kind, a form that the project keeps. The next two tables
+// stand beside it.
 const BOUNDS: [Bounds; KINDS] = [
     Bounds(0, 0),
     Bounds(0, 0),

@@ -35,7 +35,7 @@ fn links_ascend<'a>(bytes: &'a [u8; BYTES], m: usize) -> bool
 
 // ---- the counts
 
-// The child counts, counted anew.
+// The child counts, counted anew. A loop of its own beside that of the links: another key, another width, and no bound on how many there are.
 fn recount_children<'a>(bytes: &'a [u8; BYTES], n: u8) -> [u8; ROWS]
     ensures { ChildrenCounted n bytes.now result }
 {
@@ -110,6 +110,7 @@ pub fn well_kept<'a>(bytes: &'a [u8; BYTES], words: &'a [u32; WORDS]) -> bool
     if DEVICES < n {
         return false;
     }
+    // `as`, since the library has no `From` of u32 to usize
     let m = memory::links(words) as usize;
     if LINKS < m {
         return false;

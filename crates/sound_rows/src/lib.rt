@@ -28,7 +28,8 @@ pub fn every<F: Fn(usize) -> bool>(n: usize, passes: F) -> bool
     good
 }
 
-// The n rows in use of a page are at most `most`, and the others are 0.
+// The n rows in use of a page are at most `most`, and the others are 0. Three functions, for the pages of bytes, of links and of words: a generic
+// one would take an order of cells as a bound, and its laws in every clause.
 pub fn byte_column<'a>(bytes: &'a [u8; BYTES], page: usize, n: usize, most: u8) -> bool
     ensures { result ≡ column_test ROWS n most (byte_col page bytes.now) }
 {
@@ -53,7 +54,7 @@ pub fn word_column<'a>(words: &'a [u32; WORDS], page: usize, n: usize, most: u32
     every(used.len(), |p| used[p] <= most) & every(others.len(), |p| others[p] == 0)
 }
 
-// A page holds the column given.
+// A page holds the column given. Not `==` of slices, which may stop at the first row that differs.
 pub fn same_bytes<'a>(bytes: &'a [u8; BYTES], page: usize, col: &'a [u8; ROWS]) -> bool
     ensures { result ≡ same_test (byte_col page bytes.now) col.now }
 {
@@ -68,12 +69,12 @@ pub fn same_words<'a>(words: &'a [u32; WORDS], page: usize, col: &'a [u32; ROWS]
 
 // ---- one device, one link
 
-// The link from c to s comes before the one from c2 to s2: the order of the pairs (c, s), without the branches of the library's `<`.
+// The link from c to s comes before the one from c2 to s2: the order of the pairs.
 #[tactic(auto, unfolding(model::specs::Table::before))]
 pub fn comes_before(c: u8, s: u8, c2: u8, s2: u8) -> bool
     ensures { result ≡ before c s c2 s2 }
 {
-    (c < c2) | ((c == c2) & (s < s2))
+    (c, s) < (c2, s2)
 }
 
 // What a device adds to the child count of its parent.

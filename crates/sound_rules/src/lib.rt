@@ -15,7 +15,7 @@ use table_entries::{ends_good, parent_good};
 
 // ---- lower numbers
 
-// Each of the n devices has no parent or one with a lower number.
+// Each of the n devices has no parent or one with a lower number. `as`, since p is below n and so fits: `try_from` would answer what cannot fail.
 pub fn parents_good<'a>(bytes: &'a [u8; BYTES], n: u8) -> bool
     ensures { Says (λ s. all (parent_fits s) n) bytes.now result }
 {
