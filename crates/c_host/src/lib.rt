@@ -6,13 +6,13 @@ ghost use Rattle.std.specs.Prelude.{◌≡◌};
 ghost use Rattle.saved_write.specs.Writes.{WriteIs};
 ghost use Rattle.c_calls.specs.Calls.{load_bytes, feed_bytes, ask_bytes};
 
-use basics::long16;
 use c_bench::{asked, bench_in};
 use c_calls::{device, given, refused, signed};
 use keeper_bench::Bench;
+use saved_answer::SaveRefusal;
 
-// The saved form of a bench, written to state bytes, and whether there is room.
-fn keep(bench: Bench, state: &mut [u8]) -> bool
+// The saved form of a bench, written to state bytes; refused where there is no room.
+fn keep(bench: Bench, state: &mut [u8]) -> Result<(), SaveRefusal>
     ensures { WriteIs bench.bytes bench.words state.old result state.new }
 {
     let bytes = bench.bytes;
@@ -32,8 +32,8 @@ pub extern "C" fn keeper_load(table: &[u8], state: &mut [u8]) -> i32
         return refused(fault);
     }
     let bench = loaded.bench;
-    if !keep(bench, state) {
-        return refused(8);
+    if let Err(refusal) = keep(bench, state) {
+        return refused(refusal.number());
     }
     0
 }
@@ -51,8 +51,8 @@ pub extern "C" fn keeper_feed(state: &mut [u8], piece: &[u8], replies: &mut [u8]
         return refused(number);
     }
     let bench = fed.bench;
-    keep(bench, state);
-    given(long16(record_answer::count(answer)))
+    let _kept = keep(bench, state);
+    given(u64::from(record_answer::count(answer)))
 }
 
 // Ask about a part: 21, then 24. A part number of any size is answered.

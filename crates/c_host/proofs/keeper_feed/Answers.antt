@@ -3,7 +3,7 @@ use mathlib.Core.Path.{sym, ◌∙◌}
 use native.Mathlib.Omega.{arith}
 use borrow.Author.Tests.{le-leb}
 use mir.Facts.{to_z-of_z}
-use Rattle.saved_write.proofs.Saving.{saved_written}
+use Rattle.saved_write.proofs.Saving.{saved_as}
 use Rattle.c_calls.proofs.Answers.{given_whole}
 use Rattle.c_calls.proofs.Calling.{feed_refused, feed_taken, taken_sound, taken_room}
 use Rattle.c_host.proofs.keeper_feed.Goals as goal
@@ -22,8 +22,9 @@ returns c =
     let taken = sym c.number-number.ensures ∙ c.if-number-ne0.false in
     let sound = taken_sound _ _ _ is gave taken in
     let room = taken_room _ _ _ is gave taken in
-    let written = saved_written _ _ _ sound c.keep.ensures (c.keep.ensures.room ∙ le-leb _ _ room) in
+    let kept = rw (le-leb _ _ room) at c.keep-kept.ensures.room in
+    let written = rw kept at (saved_as _ _ _ sound c.keep-kept.ensures) in
     let many = c.count.type_inv in
     let whole = given_whole c.count.result (omega arith) in
-    rw (to_z-of_z (record { sfits = c.given.type_inv }), c.given.ensures, c.long16.ensures, whole, c.count.ensures)
+    rw (to_z-of_z (record { sfits = c.given.type_inv }), c.given.ensures, c.from.ensures, whole, c.count.ensures)
     (feed_taken _ _ _ is gave taken written)

@@ -1,11 +1,16 @@
 -- `c_host::keeper_load` meets its contract: a refusal comes before anything is written, and the bench of a table that is taken is sound.
 -- Assumes nothing.
 use mathlib.Core.Path.{sym, ◌∙◌}
-use borrow.Author.Tests.{not-true, not-false}
+use mathlib.Core.Path.{◌≡◌}
+use native.Mathlib.Omega.{arith}
 use mir.Facts.{to_z-of_z}
 use Rattle.model.specs.Logic.{when◌then◌else◌}
-use Rattle.saved_write.proofs.Saving.{saved_room, saved_written}
+use Rattle.saved_write.proofs.Saving.{saved_as}
+use Rattle.saved_answer.specs.declared.SaveRefusal.{SaveRefusal}
+use Rattle.saved_answer.specs.declared.SaveRefusal.TheVariants.{Unsound, Room}
+use Rattle.saved_answer.specs.Answers.{save_refusal}
 use Rattle.c_calls.specs.Numbers.{answered}
+use Rattle.c_calls.proofs.Answers.{answered_refused}
 use Rattle.c_calls.proofs.Calling.{load_refused, load_saved, loaded_sound}
 use Rattle.c_host.proofs.keeper_load.Goals as goal
 
@@ -15,14 +20,19 @@ returns-then-fault-ne0 c =
     rw (to_z-of_z (record { sfits = c.refused.type_inv }), c.refused.ensures, c.number-fault.ensures)
     (load_refused _ _ c.load-loaded.ensures (λ e. c.if-fault-ne0.true (c.number-fault.ensures ∙ e)))
 
+-- a refusal has a number
+numbered : (r : SaveRefusal) → save_refusal r ≡ 0 → ⊥
+numbered Unsound e = omega arith
+numbered Room e = omega arith
+
 -- too little room
-pub returns-then-not-keep : goal.returns-then-not-keep
-unfolding answered when◌then◌else◌
-returns-then-not-keep c =
+pub returns-in-Err : goal.returns-in-Err
+returns-in-Err c =
     let gave = c.load-loaded.ensures in
     let taken = sym c.number-fault.ensures ∙ c.if-fault-ne0.false in
-    let unwritten = saved_room _ _ _ (loaded_sound _ gave taken) c.keep.ensures (not-true _ c.if-not-keep.true-raw) in
-    rw (to_z-of_z (record { sfits = c.refused-then-not-keep.type_inv }), c.refused-then-not-keep.ensures) (load_saved _ _ gave taken unwritten)
+    let unwritten = saved_as _ _ _ (loaded_sound _ gave taken) c.in-Err.ensures in
+    rw (to_z-of_z (record { sfits = c.refused-in-Err.type_inv }), c.refused-in-Err.ensures, c.number.ensures, ← answered_refused (save_refusal c.in-Err.refusal) 0 (numbered c.in-Err.refusal))
+    (load_saved _ _ gave taken unwritten)
 
 -- taken
 pub returns : goal.returns
@@ -30,5 +40,5 @@ unfolding answered when◌then◌else◌
 returns c =
     let gave = c.load-loaded.ensures in
     let taken = sym c.number-fault.ensures ∙ c.if-fault-ne0.false in
-    let written = saved_written _ _ _ (loaded_sound _ gave taken) c.keep.ensures (not-false _ c.if-not-keep.false-raw) in
+    let written = saved_as _ _ _ (loaded_sound _ gave taken) c.in_default.ensures in
     load_saved _ _ gave taken written
