@@ -35,8 +35,8 @@ pub fn ended(progress: Progress, end: End) -> Session
     ensures { (result.progress ≡ progress) × (result.end ≡ end) × (result.more ≡ false) }
 {
     Session {
-        progress: progress,
-        end: end,
+        progress,
+        end,
         more: false,
     }
 }
@@ -68,7 +68,7 @@ fn answered(progress: Progress, is_written: bool) -> Session
 {
     if is_written {
         return Session {
-            progress: progress,
+            progress,
             end: End::Done,
             more: true,
         };
@@ -90,9 +90,8 @@ fn fed<F: Write>(
     let turn = turn::feed(before, piece, &mut replies);
     let progress = turn.progress;
     let answer = turn.answer;
-    let number = record_answer::number(answer);
-    if number != 0 {
-        printed::stopped(rt, ends.resumes, number);
+    if let Err(refusal) = answer {
+        printed::stopped(rt, ends.resumes, refusal.number());
         return ended(progress, End::Stopped);
     }
     let bench = before.bench;
@@ -139,7 +138,7 @@ pub fn pour<F: Read + Write>(
     ensures { Went bench result }
 {
     let start = Progress {
-        bench: bench,
+        bench,
         pieces: 0,
         replies: 0,
     };
