@@ -158,9 +158,8 @@ pub fn keep(rt: &impl Runtime, task: Task, bench: Bench) -> End
     }
     let mut bytes = [0u8; FORM];
     let saving = saved::save(bench, &mut bytes);
-    let number = saved_answer::save_number(saving);
-    if number != 0 {
-        printed::unsaved(rt, task.resumes, number);
+    if let Err(refusal) = saving {
+        printed::unsaved(rt, task.resumes, refusal.number());
         return End::Stopped;
     }
     named(rt, task, bench, &bytes)

@@ -1,6 +1,6 @@
 -- `state_file::keep` meets its contract: a saving into a buffer of the form's length is the form, or is refused since the bench is not sound.
 -- Assumes nothing.
-use mathlib.Core.Path.{◌≡◌, refl, sym, ◌∙◌}
+use mathlib.Core.Path.{◌≡◌, refl, ap}
 use mathlib.Core.List.{List}
 use Prim.Native.Nat.{ℕ}
 use native.Mathlib.Omega.{arith}
@@ -8,8 +8,9 @@ use lib.ListN.{length, replicate, length-replicate}
 use borrow.Author.Rules.{rules}
 use Rattle.model.specs.Limits.{LINKS, ROWS}
 use Rattle.memory.specs.Layout.{BYTES, WORDS}
+use Rattle.saved_answer.specs.Answers.{saving_of}
 use Rattle.saved_form.specs.Form.{FORM}
-use Rattle.state_file.proofs.Keeping.{sound_saved, unsound_refused, form_saved}
+use Rattle.state_file.proofs.Keeping.{refusal_numbered, sound_saved, unsound_refused, form_saved}
 use Rattle.state_file.proofs.keep.Goals as goal
 
 -- and the buffer that of a form
@@ -26,14 +27,12 @@ returns-then-task-eq0 g c =
     record { unasked = λ e. refl; sound = λ n t. absurd (n z); unsound = λ n t. absurd (n z) }
 
 -- the bench is not sound
-pub returns-then-number-ne0 : goal.returns-then-number-ne0
+pub returns-in-Err : goal.returns-in-Err
 unfolding FORM BYTES WORDS ROWS LINKS
-returns-then-number-ne0 g c =
-    let bench = c.args.bench in
-    let number = c.save_number-number.ensures in
+returns-in-Err g c =
     record {
       unasked = λ e. absurd (c.if-task-eq0.false e);
-      sound = λ n t. absurd (c.if-number-ne0.true (number ∙ sound_saved bench buffer room c.save-saving.result c.save-saving.ensures t));
+      sound = λ n t. absurd (refusal_numbered c.in-Err.is (sound_saved c.args.bench buffer room c.save-saving.result c.save-saving.ensures t));
       unsound = λ n t. refl;
     }
 
@@ -41,17 +40,16 @@ pub named-requires : goal.named-requires
 unfolding FORM BYTES WORDS ROWS LINKS
 named-requires g c =
     let w = c.well_formed in
-    let z = sym c.save_number-number.ensures ∙ c.if-number-ne0.false in
+    let z = ap saving_of c.in_default.is in
     form_saved c.args.bench buffer room c.save-saving.result c.save-saving.ensures (search rules) (search rules) z
 
 -- the bench is saved, or a file fails
 pub returns : goal.returns
 unfolding FORM BYTES WORDS ROWS LINKS
 returns g c =
-    let bench = c.args.bench in
-    let z = sym c.save_number-number.ensures ∙ c.if-number-ne0.false in
+    let z = ap saving_of c.in_default.is in
     record {
       unasked = λ e. absurd (c.if-task-eq0.false e);
       sound = λ n t. c.named.ensures;
-      unsound = λ n t. let x = unsound_refused bench buffer room c.save-saving.result c.save-saving.ensures t in absurd (omega arith);
+      unsound = λ n t. let x = unsound_refused c.args.bench buffer room c.save-saving.result c.save-saving.ensures t in absurd (omega arith);
     }
