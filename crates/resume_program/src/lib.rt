@@ -49,9 +49,8 @@ fn resume(rt: &impl Runtime, state: &[u8], task: Task) -> End
     let restored = saved::restore(state);
     let answer = restored.answer;
     let bench = restored.bench;
-    let number = saved_answer::restore_number(answer);
-    if number != 0 {
-        return refuse(rt, number);
+    if let Err(refusal) = answer {
+        return refuse(rt, refusal.number());
     }
     let session = replay_log::named(rt, bench, task);
     let end = session.end;
