@@ -44,12 +44,12 @@ pub fn finished(device: u8, code: u16) -> Reply
     }
 }
 
-// A callback of the device is asked for.
-pub fn ask(kind: CallbackKind, device: u8) -> Reply
-    ensures { result ≡ record { kind = callback_number kind; device = device; code = 0 } }
+// A callback of the device is asked for, by its kind's number.
+pub fn ask(kind: u8, device: u8) -> Reply
+    ensures { result ≡ record { kind = kind; device = device; code = 0 } }
 {
     Reply {
-        kind: kind.number(),
+        kind,
         device,
         code: 0,
     }

@@ -28,8 +28,9 @@ fn ask_suspend<'a>(
     ensures { LeadsBy ask_suspend first.now bytes.old words.old p bytes.new words.new result }
 {
     counts::set_status(bytes, words, first, p, SUSPENDING);
-    set_callback(bytes, CallbackKind::Suspend.number(), p, p);
-    ask(CallbackKind::Suspend, p)
+    let suspend = CallbackKind::Suspend.number();
+    set_callback(bytes, suspend, p, p);
+    ask(suspend, p)
 }
 
 // The put that kind 6 begins with: its code; 0 for any other kind.
@@ -76,8 +77,9 @@ pub fn let_sleep<'a>(
         return finished(p, code);
     }
     if kind < 8 {
-        set_callback(bytes, CallbackKind::Idle.number(), p, p);
-        return ask(CallbackKind::Idle, p);
+        let idle = CallbackKind::Idle.number();
+        set_callback(bytes, idle, p, p);
+        return ask(idle, p);
     }
     ask_suspend(bytes, words, first, p)
 }

@@ -20,8 +20,9 @@ fn ask_resume(bytes: &mut [u8; BYTES], q: u8, t: u8) -> Reply
     ensures { Resumes bytes.old q t bytes.new result }
 {
     set_status_cell(bytes, q, RESUMING);
-    set_callback(bytes, CallbackKind::Resume.number(), q, t);
-    ask(CallbackKind::Resume, q)
+    let resume = CallbackKind::Resume.number();
+    set_callback(bytes, resume, q, t);
+    ask(resume, q)
 }
 
 // Kind 9.

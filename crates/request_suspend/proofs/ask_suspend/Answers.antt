@@ -12,6 +12,6 @@ returns c =
       is =
           λ h l.
           let set = turned.is h l in
-          rw (c.set_callback.ensures _ (long_turned _ _ _ _ _ h.ready set), set, c.number.ensures, c.ask.ensures);
+          rw (c.set_callback.ensures _ (long_turned _ _ _ _ _ h.ready set), set, c.ask.ensures, c.number-suspend.ensures);
       stays = then_callback _ _ _ _ _ _ _ _ (turned_on turned) c.set_callback.ensures;
     }

@@ -47,7 +47,7 @@ returns-then-kind-lt8 c =
           record {
             is =
                 λ h.
-                rw (c.set_callback.ensures _ (full_long _ _ h), c.number.ensures, c.ask.ensures) (idle_asks _ _ (coded (goal.at.returns-then-kind-lt8 c).After-choose-code) e c.if-code-gt0.false);
+                rw (c.set_callback.ensures _ (full_long _ _ h), c.ask.ensures, c.number-idle.ensures) (idle_asks _ _ (coded (goal.at.returns-then-kind-lt8 c).After-choose-code) e c.if-code-gt0.false);
           };
       suspending = λ e. never (lt-ltb _ _ c.if-kind-lt8.true) e;
     })

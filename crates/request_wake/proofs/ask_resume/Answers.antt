@@ -20,6 +20,6 @@ returns c =
           let turned =
           c.set_status_cell.ensures words
           ∙ turned_same (state_in c.args.bytes.now words) c.args.q RESUMING h (status_row h c.args.q (omega arith)) (both_asleep _ RESUMING z (omega arith)) in
-          rw (c.set_callback.ensures words (long_turned _ _ _ _ _ h turned), turned, c.number.ensures, c.ask.ensures);
+          rw (c.set_callback.ensures words (long_turned _ _ _ _ _ h turned), turned, c.ask.ensures, c.number-resume.ensures);
       stays = λ words. then_callback _ words _ _ _ _ _ _ (ap fixed (c.set_status_cell.ensures words)) c.set_callback.ensures;
     }
