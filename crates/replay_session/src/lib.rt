@@ -11,9 +11,10 @@ use program_end::End;
 use replay_files::{files, printed};
 use replay_pieces::turn;
 use replay_pieces::turn::Progress;
-use std::io::{Read, Write};
+use std::io::{Read, Result, Write};
 
 // Where a replay stands: the bench and the replies, the end where there is no more, and whether there may be more to read.
+// The end is Done where there may be more, since `pour` ends so where it can count no further: an Option would be turned into Done again there.
 #[derive(Clone, Copy)]
 pub struct Session {
     pub progress: Progress,
@@ -41,42 +42,15 @@ pub fn ended(progress: Progress, end: End) -> Session
     }
 }
 
-// Hands the library what is to be written, the model's replies to a piece, each byte of them; says so where it fails. The bench and the
-// piece are there to name these replies.
-fn write_replies<F: Write>(
-    rt: &(impl Eprint + Alloc),
-    bench: Bench,
-    piece: &[u8],
-    replies: &[u8],
-    ends: &mut Ends<F>,
-    out_path: &[u8],
-) -> bool
+// Hands the library what is to be written, the model's replies to a piece, each byte of them. The bench and the piece are there to name these
+// replies.
+fn write_replies(out: &mut impl Write, bench: Bench, piece: &[u8], replies: &[u8]) -> Result<()>
     requires { replies.now ≡ replies_in (run (state_of bench) piece.now).log }
 {
-    match ends.out.write_all(replies) {
-        Ok(()) => true,
-        Err(error) => {
-            files::complain(rt, ends.resumes, out_path, error);
-            false
-        }
-    }
+    out.write_all(replies)
 }
 
-// The session after a piece that is taken.
-fn answered(progress: Progress, is_written: bool) -> Session
-    ensures { (result.progress ≡ progress) × ((result.end ≡ End.Done) ⊎ (result.end ≡ End.Failed)) }
-{
-    if is_written {
-        return Session {
-            progress,
-            end: End::Done,
-            more: true,
-        };
-    }
-    ended(progress, End::Failed)
-}
-
-// Feeds a piece and writes its replies.
+// Feeds a piece and writes its replies; says so where that fails.
 fn fed<F: Write>(
     rt: &(impl Eprint + Alloc),
     before: Progress,
@@ -96,8 +70,15 @@ fn fed<F: Write>(
     }
     let bench = before.bench;
     let written = turn.bytes;
-    let is_written = write_replies(rt, bench, piece, &replies[..written], ends, out_path);
-    answered(progress, is_written)
+    if let Err(error) = write_replies(&mut ends.out, bench, piece, &replies[..written]) {
+        files::complain(rt, ends.resumes, out_path, error);
+        return ended(progress, End::Failed);
+    }
+    Session {
+        progress,
+        end: End::Done,
+        more: true,
+    }
 }
 
 // Reads the next piece, feeds it and writes its replies.
@@ -127,6 +108,7 @@ fn next<F: Read + Write>(
 
 // Feeds the first piece and all that follow. A proved loop has to end, and nothing says that a file does: the loop ends at a number of
 // pieces that no log has. So each turn has to go on from where the one before it stands.
+// A `for` over the numbers of pieces would be no plainer: it would test `more` in its body, and count beside the progress.
 pub fn pour<F: Read + Write>(
     rt: &(impl Eprint + Alloc),
     first: &[u8],

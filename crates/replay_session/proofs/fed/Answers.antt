@@ -5,6 +5,6 @@ use Rattle.replay_pieces.proofs.Within.{to_write}
 use Rattle.replay_session.proofs.fed.Goals as goal
 
 -- what is written
-pub write_replies-is_written-requires : goal.write_replies-is_written-requires
-write_replies-is_written-requires g c =
+pub write_replies-requires : goal.write_replies-requires
+write_replies-requires g c =
     to_write c.feed-turn.ensures (ap number_of c.in_default.is)
