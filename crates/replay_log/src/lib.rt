@@ -19,7 +19,7 @@ fn failed(bench: Bench) -> Session
 {
     ended(
         Progress {
-            bench: bench,
+            bench,
             pieces: 0,
             replies: 0,
         },

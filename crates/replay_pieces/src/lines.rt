@@ -50,12 +50,12 @@ pub fn device(bench: Bench, p: u8) -> Line
     replay_row::device(
         p,
         Row {
-            status: status,
-            holds: holds,
-            linked: linked,
-            children: children,
-            depth: depth,
-            error: error,
+            status,
+            holds,
+            linked,
+            children,
+            depth,
+            error,
         },
     )
 }

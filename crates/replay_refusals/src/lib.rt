@@ -27,7 +27,7 @@ pub fn stopped(resumes: bool, number: u8) -> Line
     )
 }
 
-// PROGRAM: state refused NUMBER
+// PROGRAM: state refused NUMBER. A function for both texts would be no plainer: each is one expression, and would stay one that calls it.
 pub fn unsaved(resumes: bool, number: u8) -> Line
     ensures { result ≡ line_of (unsaved_text resumes number) }
 {

@@ -32,7 +32,8 @@ pub fn carried(used: u8) -> Line
     word(field(start(), b"carried ", u64::from(used)), b"\n")
 }
 
-// callback none, callback suspend P, callback idle P or callback resume P for T
+// callback none, callback suspend P, callback idle P or callback resume P for T; the kind as the memory numbers it, since the clause tells
+// numbers of no kind too.
 pub fn callback(kind: u8, asked: u8, target: u8) -> Line
     ensures { result ≡ line_of (callback_text kind asked target) }
 {

@@ -7,7 +7,7 @@ ghost use Rattle.replay_row.specs.Rows.{status_text, sign_text, row_text};
 
 use replay_text::line::{Line, field, number, start, word};
 
-// The line with the word of a status.
+// The line with the word of a status, as the memory numbers it, since the clause `status_text` tells numbers of no status too.
 fn status_word(line: Line, status: u8) -> Line
     ensures { result ≡ added line (status_text status) }
 {

@@ -42,7 +42,7 @@ fn write_word(into: &mut [u8], at: usize, w: u32)
     into[at..end].copy_from_slice(&w.to_le_bytes());
 }
 
-// Words, four bytes each, to the front of bytes.
+// Words, four bytes each, to the front of bytes. A function for both ways would be no plainer: they share their count alone.
 pub fn write_words(from: &[u32], into: &mut [u8])
     ensures { into.new ≡ over (word_bytes (take (length into.old / 4) from.now)) into.old }
 {

@@ -24,7 +24,7 @@ fn put_bytes(from: &[u8], at: usize, out: &mut [u8])
     out[at..end].copy_from_slice(from);
 }
 
-// Words, four bytes each.
+// Words, four bytes each. A function for both would be no plainer: it would take the size of a cell and how cells are written.
 fn put_words(from: &[u32], at: usize, out: &mut [u8])
     requires { at + 4 * length from.now ≤ length out.old }
     ensures { out.new ≡ laid out.old at (word_bytes from.now) }
