@@ -4,12 +4,12 @@ use program_files::{arg_count, argument, same_name, say};
 use replay_text::size::MOST;
 use std::env::Env;
 
-// What the arguments ask for: the program that speaks, the size of the pieces, and which argument names the file to save to, 0 for none.
+// What the arguments ask for: the program that speaks, the size of the pieces, and which argument names the file to save to.
 #[derive(Clone, Copy)]
 pub struct Task {
     pub resumes: bool,
     pub size: usize,
-    pub save: usize,
+    pub save: Option<usize>,
 }
 
 // The size of the pieces that argument 4 gives.
@@ -31,7 +31,7 @@ fn is_save(rt: &impl Env, i: usize) -> bool {
 }
 
 // With PIECE, and the argument that names the file to save to.
-fn sized(rt: &impl Env, resumes: bool, save: usize) -> Option<Task> {
+fn sized(rt: &impl Env, resumes: bool, save: Option<usize>) -> Option<Task> {
     let size = size(rt)?;
     Some(Task {
         resumes,
@@ -41,7 +41,7 @@ fn sized(rt: &impl Env, resumes: bool, save: usize) -> Option<Task> {
 }
 
 // Without PIECE, whose greatest size it is then.
-fn whole(resumes: bool, save: usize) -> Option<Task> {
+fn whole(resumes: bool, save: Option<usize>) -> Option<Task> {
     Some(Task {
         resumes,
         size: MOST,
@@ -52,10 +52,10 @@ fn whole(resumes: bool, save: usize) -> Option<Task> {
 // What follows REPLIES: nothing, PIECE, `--save STATE`, or both in this order.
 fn task_of(rt: &impl Env, resumes: bool) -> Option<Task> {
     match arg_count(rt, 8) {
-        4 => whole(resumes, 0),
-        5 => sized(rt, resumes, 0),
-        6 if is_save(rt, 4) => whole(resumes, 5),
-        7 if is_save(rt, 5) => sized(rt, resumes, 6),
+        4 => whole(resumes, None),
+        5 => sized(rt, resumes, None),
+        6 if is_save(rt, 4) => whole(resumes, Some(5)),
+        7 if is_save(rt, 5) => sized(rt, resumes, Some(6)),
         _ => None,
     }
 }
@@ -67,10 +67,9 @@ fn overwrites(rt: &impl Env) -> bool {
 
 // Whether the file to save to has the name of another file. That of `resume` may be the one that was read.
 fn replaces(rt: &impl Env, task: Task) -> bool {
-    let save = task.save;
-    if save == 0 {
+    let Some(save) = task.save else {
         return false;
-    }
+    };
     same_name(rt, 2, save) || same_name(rt, 3, save) || (!task.resumes && same_name(rt, 1, save))
 }
 

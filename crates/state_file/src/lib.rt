@@ -134,13 +134,13 @@ fn replaced(rt: &impl Runtime, task: Task, bench: Bench, bytes: &[u8], path: &[u
     }
 }
 
-// Replaces the file that the task names.
-fn named(rt: &impl Runtime, task: Task, bench: Bench, bytes: &[u8]) -> End
+// Replaces the file that argument `save` names.
+fn named(rt: &impl Runtime, task: Task, save: usize, bench: Bench, bytes: &[u8]) -> End
     requires { bytes.now ≡ form (state_of bench) }
     ensures { (result ≡ End.Done) ⊎ (result ≡ End.Failed) }
 {
     let mut path = io::buffer();
-    match argument(rt, task.save, &mut path) {
+    match argument(rt, save, &mut path) {
         Ok(length) => replaced(rt, task, bench, bytes, &path[..length]),
         Err(error) => {
             files::complain(rt, task.resumes, b"STATE", error);
@@ -153,14 +153,14 @@ fn named(rt: &impl Runtime, task: Task, bench: Bench, bytes: &[u8]) -> End
 pub fn keep(rt: &impl Runtime, task: Task, bench: Bench) -> End
     ensures { Kept task.save (state_of bench) result }
 {
-    if task.save == 0 {
+    let Some(save) = task.save else {
         return End::Done;
-    }
+    };
     let mut bytes = [0u8; FORM];
     let saving = saved::save(bench, &mut bytes);
     if let Err(refusal) = saving {
         printed::unsaved(rt, task.resumes, refusal.number());
         return End::Stopped;
     }
-    named(rt, task, bench, &bytes)
+    named(rt, task, save, bench, &bytes)
 }

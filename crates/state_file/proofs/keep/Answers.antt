@@ -10,6 +10,7 @@ use Rattle.model.specs.Limits.{LINKS, ROWS}
 use Rattle.memory.specs.Layout.{BYTES, WORDS}
 use Rattle.saved_answer.specs.Answers.{saving_of}
 use Rattle.saved_form.specs.Form.{FORM}
+use Rattle.state_file.proofs.Ending.{some_none, not_some}
 use Rattle.state_file.proofs.Keeping.{refusal_numbered, sound_saved, unsound_refused, form_saved}
 use Rattle.state_file.proofs.keep.Goals as goal
 
@@ -21,9 +22,9 @@ room : length buffer ≡ FORM
 room = length-replicate FORM 0
 
 -- nothing is asked
-pub returns-then-task-eq0 : goal.returns-then-task-eq0
-returns-then-task-eq0 g c =
-    let z = c.if-task-eq0.true in
+pub returns-in_default : goal.returns-in_default
+returns-in_default g c =
+    let z = not_some c.args.task.save c.in_default.not-Some in
     record { unasked = λ e. refl; sound = λ n t. absurd (n z); unsound = λ n t. absurd (n z) }
 
 -- the bench is not sound
@@ -31,7 +32,7 @@ pub returns-in-Err : goal.returns-in-Err
 unfolding FORM BYTES WORDS ROWS LINKS
 returns-in-Err g c =
     record {
-      unasked = λ e. absurd (c.if-task-eq0.false e);
+      unasked = λ e. absurd (some_none c.in-Some.is e);
       sound = λ n t. absurd (refusal_numbered c.in-Err.is (sound_saved c.args.bench buffer room c.save-saving.result c.save-saving.ensures t));
       unsound = λ n t. refl;
     }
@@ -40,16 +41,16 @@ pub named-requires : goal.named-requires
 unfolding FORM BYTES WORDS ROWS LINKS
 named-requires g c =
     let w = c.well_formed in
-    let z = ap saving_of c.in_default.is in
+    let z = ap saving_of c.in_default-saving.is in
     form_saved c.args.bench buffer room c.save-saving.result c.save-saving.ensures (search rules) (search rules) z
 
 -- the bench is saved, or a file fails
 pub returns : goal.returns
 unfolding FORM BYTES WORDS ROWS LINKS
 returns g c =
-    let z = ap saving_of c.in_default.is in
+    let z = ap saving_of c.in_default-saving.is in
     record {
-      unasked = λ e. absurd (c.if-task-eq0.false e);
+      unasked = λ e. absurd (some_none c.in-Some.is e);
       sound = λ n t. c.named.ensures;
       unsound = λ n t. let x = unsound_refused c.args.bench buffer room c.save-saving.result c.save-saving.ensures t in absurd (omega arith);
     }
