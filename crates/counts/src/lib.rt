@@ -21,7 +21,7 @@ fn powered(v: u8) -> bool
     ACTIVE <= v
 }
 
-// A child count one more or one less; it stays where that would wrap.
+// A child count one more or one less; it stays where that would wrap. `up` is the flag of the definitions (`next_up_to`).
 fn next_children(children: u8, up: bool) -> u8
     ensures { result ≡ next_up_to 255 up children }
 {

@@ -61,7 +61,7 @@ pub fn put(out: &mut impl Write, line: Line) -> Result<()> {
     out.write_all(&bytes[..within(line.used, &bytes)])
 }
 
-// Writes a line to standard output and answers whether it could, and says so where not.
+// Writes a line to standard output and answers whether it could, and says so where not: an error handed on would be told twice.
 pub fn print(rt: &impl Runtime, program: &[u8], line: Line) -> bool {
     match put(&mut std::io::writer(rt), line) {
         Ok(()) => true,

@@ -11,6 +11,7 @@ use memory_stores::{set_depth, set_holds};
 use model::{EOVERFLOW, MAX_DEPTH, MAX_HOLDS};
 
 // The four requests are alike but for the column, the direction and the limit: one function for them would take all three, and be no plainer.
+// Each gives the code of its reply, which is handed on as it is: a `Result` would be turned into the code at every call.
 
 // Kind 1: the code it is finished with.
 pub fn enable(bytes: &mut [u8; BYTES], p: u8) -> u16

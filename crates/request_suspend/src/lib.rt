@@ -33,7 +33,7 @@ fn ask_suspend<'a>(
     ask(suspend, p)
 }
 
-// The put that kind 6 begins with: its code; 0 for any other kind.
+// The put that kind 6 begins with: its code; 0 for any other kind. A kind is a number here, since `let_sleep` answers for every number.
 fn put_first(words: &mut [u32; WORDS], kind: u8, p: u8) -> u16
     ensures { PutFirst kind words.old p words.new result }
 {

@@ -26,7 +26,8 @@ pub fn has_children<'a>(bytes: &'a [u8; BYTES], p: u8) -> bool
 }
 
 // The suspend test of device p: its code, 0 where it is passed. All that it reads is read first, and the code then chosen, the last test
-// first: which test fails is hard to foresee, and a branch for each would cost more than the reading.
+// first: which test fails is hard to foresee, and a branch for each would cost more than the reading. A code and no `Result`: it is joined with
+// the codes of the status, 1 among them.
 pub fn suspend_test<'a>(bytes: &'a [u8; BYTES], words: &'a [u32; WORDS], p: u8) -> u16
     ensures { result ≡ suspend_test (state_in bytes.now words.now) p }
 {

@@ -10,7 +10,7 @@ use model::{DEVICES, LINKS};
 use table_entries::{byte_at, ends_good, parent_good};
 use writer_answer::Refusal;
 
-// A byte of the entry of device p: field 0 the parent, 1 the flags.
+// A byte of the entry of device p: field 0 the parent, 1 the flags. Fields are numbers, as in `device_field` of the model, which has every one.
 fn device_field(devices: &[u8], field: u8, p: u8) -> u8
     ensures { result ≡ device_field devices.now field p }
 {
