@@ -4,11 +4,11 @@
 ghost use Rattle.std.specs.Prelude.{◌≡◌, Err, false};
 ghost use Rattle.model.specs.Questions.{told};
 ghost use Rattle.keeper_bench.specs.Translate.{state_of};
-ghost use Rattle.keeper_answers.specs.Told.{number_told, told_code};
+ghost use Rattle.keeper_answers.specs.Told.{number_told, status_told, member_told, told_code};
 ghost use Rattle.c_bench.specs.Benches.{BenchIs};
 ghost use Rattle.c_calls.specs.Questions.{ask};
 
-use keeper_answers::{Refusal, code};
+use keeper_answers::{Refusal, Status, code};
 use keeper_bench::Bench;
 use saved_form::FORM;
 
@@ -39,24 +39,37 @@ fn unknown(b: Bench) -> Refusal
     Refusal::Unknown
 }
 
-// A question about device p, in the wake set's question about p and q.
-fn answer(b: Bench, question: u32, p: u8, q: u8) -> Result<u32, Refusal>
-    ensures { number_told result ≡ ask question (state_of b) p q }
+// A status as one number: the refusal's number and 256 times what is told, as `code` makes it of a number.
+fn status_code(answer: Result<Status, Refusal>) -> u64
+    ensures { result ≡ told_code (status_told answer) }
 {
-    match question {
-        0 => Ok(u32::from(keeper_questions::status_of(b, p)?.number())),
-        1 => keeper_questions::usage_count(b, p),
-        2 => keeper_questions::child_count(b, p),
-        3 => keeper_questions::user_holds(b, p),
-        4 => Ok(u32::from(keeper_questions::in_wake_set(b, p, q)?)),
-        5 => keeper_questions::parents_above(b, p),
-        _ => Err(unknown(b)),
+    match answer {
+        Ok(status) => 256 * u64::from(status.number()),
+        Err(refusal) => u64::from(refusal.number()),
     }
 }
 
-// The same, as the refusal's number and 256 times what is told.
+// Whether a device is a member, as one number.
+fn member_code(answer: Result<bool, Refusal>) -> u64
+    ensures { result ≡ told_code (member_told answer) }
+{
+    match answer {
+        Ok(member) => 256 * u64::from(member),
+        Err(untold) => u64::from(untold.number()),
+    }
+}
+
+// A question about device p, in the wake set's question about p and q: the refusal's number and 256 times what is told.
 pub fn asked(b: Bench, question: u32, p: u8, q: u8) -> u64
     ensures { result ≡ told_code (ask question (state_of b) p q) }
 {
-    code(answer(b, question, p, q))
+    match question {
+        0 => status_code(keeper_questions::status_of(b, p)),
+        1 => code(keeper_questions::usage_count(b, p)),
+        2 => code(keeper_questions::child_count(b, p)),
+        3 => code(keeper_questions::user_holds(b, p)),
+        4 => member_code(keeper_questions::in_wake_set(b, p, q)),
+        5 => code(keeper_questions::parents_above(b, p)),
+        _ => u64::from(unknown(b).number()),
+    }
 }

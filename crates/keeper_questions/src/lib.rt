@@ -1,4 +1,6 @@
 // The public questions on a bench. Each is refused first where the bench is not sound (21), then where a device is unknown (24).
+// `status_of`, `user_holds` and `in_wake_set` hand a refusal on by arms, the others by `?`: so a must-fail edit can change what a status, a number
+// or a membership alone is told of a refusal.
 #![tactic(auto)]
 
 ghost use Rattle.std.specs.Prelude.{◌≡◌, not, leb};
@@ -43,15 +45,20 @@ fn about_both(b: Bench, p: u8, q: u8) -> Result<(), Refusal>
 pub fn status_of(b: Bench, device: u8) -> Result<Status, Refusal>
     ensures { status_told result ≡ tell_status (state_of b) device }
 {
-    about(b, device)?;
-    Ok(Status::from_number(status(&b.bytes, device)))
+    match about(b, device) {
+        Ok(()) => Ok(Status::from_number(status(&b.bytes, device))),
+        Err(refusal) => Err(refusal),
+    }
 }
 
 pub fn user_holds(b: Bench, device: u8) -> Result<u32, Refusal>
     ensures { number_told result ≡ tell_holds (state_of b) device }
 {
-    about(b, device)?;
-    Ok(holds(&b.words, device))
+    match about(b, device) {
+        Ok(()) => Ok(holds(&b.words, device)),
+        Err(Refusal::Unsound) => Err(Refusal::Unsound),
+        Err(Refusal::Unknown) => Err(Refusal::Unknown),
+    }
 }
 
 // User holds, and runtime links from powered consumers: on a sound bench fewer than 2^32.
@@ -75,7 +82,11 @@ pub fn child_count(b: Bench, device: u8) -> Result<u32, Refusal>
 pub fn in_wake_set(b: Bench, device: u8, other: u8) -> Result<bool, Refusal>
     ensures { member_told result ≡ tell_wake (state_of b) device other }
 {
-    about_both(b, device, other)?;
+    match about_both(b, device, other) {
+        Ok(()) => {}
+        Err(Refusal::Unsound) => return Err(Refusal::Unsound),
+        Err(Refusal::Unknown) => return Err(Refusal::Unknown),
+    }
     let first = links::index(&b.bytes, &b.words);
     let marks = wakeset::wake_set(&b.bytes, &first, device);
     Ok(marks[usize::from(other)])

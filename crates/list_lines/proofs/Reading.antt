@@ -8,7 +8,7 @@ use Rattle.list_lines.specs.Numbers.{capped, number_in}
 use Rattle.list_lines.specs.declared.entries.Fault.{Fault}
 use Rattle.list_lines.specs.declared.entries.Fault.TheVariants.{Large, Wrong}
 
--- a number that was capped at 256
+-- a number that was capped over 255
 pub fit : Option ℕ → Result ℕ Fault
 fit (Some v) = capped v
 fit None = Err Wrong
@@ -21,20 +21,20 @@ large : (x : ℕ) → 255 < x → capped x ≡ Err Large
 unfolding capped when◌then◌else◌
 large x h = rw (lt-leb x 255 h)
 
-twice : (x : ℕ) → capped (min x 256) ≡ capped x
-twice x = elim (dec_lt 255 x) [
-  | yes h ↦ rw (large x h) (large (min x 256) (omega arith))
-  | no h ↦ (let e : min x 256 ≡ x = omega arith in rw e)
+twice : (m x : ℕ) → 255 < m → capped (min x m) ≡ capped x
+twice m x k = elim (dec_lt 255 x) [
+  | yes h ↦ rw (large x h) (large (min x m) (omega arith))
+  | no h ↦ (let e : min x m ≡ x = omega arith in rw e)
 ]
 
-fit_if : (b : Bool) (x : ℕ) → fit (when b then Some (min x 256) else None) ≡ (when b then capped x else Err Wrong)
+fit_if : (m : ℕ) → 255 < m → (b : Bool) (x : ℕ) → fit (when b then Some (min x m) else None) ≡ (when b then capped x else Err Wrong)
 unfolding fit when◌then◌else◌
-fit_if true x = twice x
-fit_if false x = refl
+fit_if m k true x = twice m x k
+fit_if m k false x = refl
 
-pub number_read : (w : List ℕ) (b : Bool) → (b ≡ eqb (length w) 0) → b ≡ false → fit (number_of 256 w) ≡ number_in w
+pub number_read : {m : ℕ} → 255 < m → (w : List ℕ) (b : Bool) → (b ≡ eqb (length w) 0) → b ≡ false → fit (number_of m w) ≡ number_in w
 unfolding number_in number_of number_after when◌then◌else◌
-number_read w b e n = rw (sym e ∙ n) (fit_if (all_digits w) (value_after 0 w))
+number_read {m} k w b e n = rw (sym e ∙ n) (fit_if m k (all_digits w) (value_after 0 w))
 
 pub number_none : (w : List ℕ) (b : Bool) → (b ≡ eqb (length w) 0) → b ≡ true → Err Wrong ≡ number_in w
 unfolding number_in when◌then◌else◌

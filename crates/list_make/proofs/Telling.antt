@@ -29,23 +29,33 @@ module _ (text : List ℕ) {a : ℕ} (device : a ≡ line_number false text DEVI
   unfolding over_line when◌then◌else◌
   over_device n = rw (ne_eqb (line_number false text DEVICES) 0 (λ e. n (device ∙ e))) device
 
--- ---- the line of a refusal
-module _ (text : List ℕ) {r : Refusal} {x : ℕ} where
-  pub in_device : {p q : ℕ} → r ≡ Device p → q ≡ p → x ≡ line_number false text q → x ≡ refused_line text (refusal_of r).number (refusal_of r).index
+-- ---- the line of a refusal, by its number and its index
+module _ (text : List ℕ) (number index : ℕ) {r : ℕ} where
+  pub in_device : number ≡ 6 → r ≡ line_number false text index → r ≡ refused_line text number index
   unfolding refused_line when◌then◌else◌
-  in_device is e f = rw is (rw e at f)
+  in_device e f = rw (eq-eqb number 6 e) f
 
-  pub in_link : {i q : ℕ} → r ≡ Link i → q ≡ i → x ≡ line_number true text q → x ≡ refused_line text (refusal_of r).number (refusal_of r).index
+  pub in_link : number ≡ 7 → r ≡ line_number true text index → r ≡ refused_line text number index
   unfolding refused_line when◌then◌else◌
-  in_link is e f = rw is (rw e at f)
+  in_link e f = rw e f
+
+  pub in_neither : (number ≡ 6 → ⊥) → (number ≡ 7 → ⊥) → r ≡ over_line text → r ≡ refused_line text number index
+  unfolding refused_line when◌then◌else◌
+  in_neither a b f = rw (ne_eqb number 6 a, ne_eqb number 7 b) f
+
+-- of the writer's own refusals
+module _ (text : List ℕ) {r : Refusal} {x : ℕ} where
+  pub of_device : {p q : ℕ} → r ≡ Device p → q ≡ p → x ≡ line_number false text q → x ≡ refused_line text (refusal_of r).number (refusal_of r).index
+  of_device {p} is e f = rw is (in_device text 6 p refl (rw e at f))
+
+  pub of_link : {i q : ℕ} → r ≡ Link i → q ≡ i → x ≡ line_number true text q → x ≡ refused_line text (refusal_of r).number (refusal_of r).index
+  of_link {i} is e f = rw is (in_link text 7 i refl (rw e at f))
 
   pub past_limits : r ≡ Limits → x ≡ over_line text → x ≡ refused_line text (refusal_of r).number (refusal_of r).index
-  unfolding refused_line when◌then◌else◌
-  past_limits is f = rw is f
+  past_limits is f = rw is (in_neither text 4 0 (λ z. omega arith) (λ z. omega arith) f)
 
   pub no_room : r ≡ Room → x ≡ over_line text → x ≡ refused_line text (refusal_of r).number (refusal_of r).index
-  unfolding refused_line when◌then◌else◌
-  no_room is f = rw is f
+  no_room is f = rw is (in_neither text 8 0 (λ z. omega arith) (λ z. omega arith) f)
 
 -- ---- an outcome
 module _ (text : List ℕ) (a : TableAnswer) (size : ℕ) where

@@ -4,10 +4,11 @@ use mathlib.Core.Bool.{Bool, true, false, not, cond}
 use mathlib.Core.List.{List, [], ◌∷◌, map}
 use Prim.Native.Nat.{ℕ, suc, ◌+◌, ◌-◌, ◌≤◌, ◌<◌}
 use native.Mathlib.Omega.{arith}
+use native.Mathlib.Numerals.{add-one}
 use lib.Dec.{eqb, leb, leb-suc-suc}
-use lib.ListN.{length, take, drop, length-drop}
-use lib.Seq.{drop-drop}
-use borrow.Author.Tests.{le-leb, lt-leb, leb-true, leb-false}
+use lib.ListN.{length, get_or, take, drop, length-drop, drop_of_length-le}
+use lib.Seq.{drop-cons, drop-drop}
+use borrow.Author.Tests.{eq-eqb, ne_eqb, le-leb, lt-leb, leb-true, leb-false}
 use Rattle.model.specs.Logic.{when◌then◌else◌}
 use Rattle.std.specs.Prelude.{Result}
 use Rattle.std.specs.List.{prefix_len}
@@ -42,6 +43,20 @@ within i j m n h e false f = let g = leb-false (i + j) n f in lt-leb j m (omega 
 
 from_place : (i j : ℕ) (s : List ℕ) → i ≤ length s → lines_from j (drop i s) ≡ lines_from (i + j) s
 from_place i j s h = rw (within i j (length (drop i s)) (length s) h (length-drop i s) (leb (i + j) (length s)) refl, drop-drop j i s)
+
+-- ---- the byte at a place
+module _ (s : List ℕ) (i : ℕ) where
+  pub feed_here : i < length s → get_or s i 0 ≡ 10 → before (drop i s) ≡ 0
+  unfolding before when◌then◌else◌
+  feed_here more e = rw (drop-cons s i 0 more, eq-eqb (get_or s i 0) 10 e)
+
+  pub feed_on : i < length s → (get_or s i 0 ≡ 10 → ⊥) → before (drop i s) ≡ suc (before (drop (i + 1) s))
+  unfolding before when◌then◌else◌
+  feed_on more e = rw (add-one i, drop-cons s i 0 more, ne_eqb (get_or s i 0) 10 e)
+
+  pub feed_none : length s ≤ i → before (drop i s) ≡ 0
+  unfolding before
+  feed_none h = rw (drop_of_length-le s h)
 
 -- ---- the bytes before the first line feed
 before_if : (c : Bool) (n m : ℕ) → n ≡ m → cond (not c) (1 + n) 0 ≡ (when c then 0 else suc m)

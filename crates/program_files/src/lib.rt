@@ -1,7 +1,7 @@
 // What every program does with files: what is read, what is written, and what is said where a file fails.
 #![tactic(auto)]
 
-ghost use Rattle.std.specs.Prelude.{IfOk};
+ghost use Rattle.std.specs.Prelude.{◌≡◌, IfOk, IfErr};
 ghost use Rattle.std.specs.Io.{WritesAtMost};
 ghost use Rattle.io.specs.Counts.{IsPrefixLen};
 
@@ -104,15 +104,30 @@ pub fn same_name(rt: &impl Env, i: usize, j: usize) -> bool {
     }
 }
 
-// Reads until buf has that many bytes or is full, or the input ends, and answers how many bytes were read. They stand at the front of buf;
-// which they are no contract of the library says.
-pub fn fill(from: &mut impl Read, buf: &mut [u8], size: usize) -> Result<usize>
-    ensures { IfOk result (λ count. IsPrefixLen count buf.new) }
+// A read that failed: how many bytes were read before it, and why.
+#[derive(Clone, Copy)]
+pub struct FailedRead {
+    pub count: usize,
+    pub error: Error,
+}
+
+// Reads until buf has that many bytes or is full, the input ends or a read fails, and answers how many bytes were read. They stand at the
+// front of buf, also where a read failed; which they are no contract of the library says.
+pub fn fill(
+    from: &mut impl Read,
+    buf: &mut [u8],
+    size: usize,
+) -> std::result::Result<usize, FailedRead>
+    ensures ok { IfOk result (λ count. IsPrefixLen count buf.new) }
+    ensures err { IfErr result (λ failed. IsPrefixLen failed.count buf.new) }
 {
     let most = within(size, buf);
     let mut done: usize = 0;
     while done < most {
-        let more = from.read(&mut buf[done..most])?;
+        let more = match from.read(&mut buf[done..most]) {
+            Ok(more) => more,
+            Err(error) => return Err(FailedRead { count: done, error }),
+        };
         if more == 0 {
             break;
         }
@@ -143,8 +158,27 @@ pub fn close(file: impl OpenFile + Drop) -> Result<()> {
     Ok(())
 }
 
+// A file that did not open: the length of its name, 0 where that could not be read, and why.
+#[derive(Clone, Copy)]
+pub struct FailedOpen {
+    pub length: usize,
+    pub error: Error,
+}
+
+// Nothing is read of a file that did not open.
+impl From<FailedOpen> for FailedRead {
+    ghost from_gives = { λ failed read. (read.count ≡ 0) × (read.error ≡ failed.error) };
+
+    fn from(failed: FailedOpen) -> FailedRead {
+        FailedRead {
+            count: 0,
+            error: failed.error,
+        }
+    }
+}
+
 // Opens the file whose name is argument i, which the usage calls so. The name is put at the front of path, and its length is answered with
-// the open file. Says what fails.
+// the open file, or with why there is none. Says what fails.
 pub fn opened<R: Runtime>(
     rt: &R,
     program: &[u8],
@@ -152,39 +186,42 @@ pub fn opened<R: Runtime>(
     called: &[u8],
     path: &mut [u8],
     write: bool,
-) -> Result<(R::File, usize)>
-    ensures { IfOk result (λ opened. IsPrefixLen opened.1 path.new) }
+) -> std::result::Result<(R::File, usize), FailedOpen>
+    ensures ok { IfOk result (λ opened. IsPrefixLen opened.1 path.new) }
+    ensures err { IfErr result (λ failed. IsPrefixLen failed.length path.new) }
 {
     let length = match argument(rt, i, path) {
         Ok(length) => length,
         Err(error) => {
             complain(rt, program, called, error);
-            return Err(error);
+            return Err(FailedOpen { length: 0, error });
         }
     };
     match open(rt, &path[..length], write) {
         Ok(file) => Ok((file, length)),
         Err(error) => {
             complain(rt, program, &path[..length], error);
-            Err(error)
+            Err(FailedOpen { length, error })
         }
     }
 }
 
-// The number of the first bytes of the file whose name is argument 1, as many as buf has room for; they stand at its front.
+// The number of the first bytes of the file whose name is argument 1, as many as buf has room for; they stand at its front, as those do that
+// were read before a read failed.
 pub fn first_bytes(
     rt: &impl Runtime,
     program: &[u8],
     called: &[u8],
     buf: &mut [u8],
-) -> Result<usize>
-    ensures { IfOk result (λ count. IsPrefixLen count buf.new) }
+) -> std::result::Result<usize, FailedRead>
+    ensures ok { IfOk result (λ count. IsPrefixLen count buf.new) }
+    ensures err { IfErr result (λ failed. IsPrefixLen failed.count buf.new) }
 {
     let mut path = io::buffer();
     let (mut file, length) = opened(rt, program, 1, called, &mut path, false)?;
     let read = fill(&mut file, buf, buf.len());
-    if let Err(error) = &read {
-        complain(rt, program, &path[..length], *error);
+    if let Err(failed) = &read {
+        complain(rt, program, &path[..length], failed.error);
     }
     read
 }

@@ -4,8 +4,8 @@ use mathlib.Core.List.{List, [], ◌∷◌, ◌++◌, append_assoc, append-nil}
 use Prim.Native.Nat.{ℕ, suc, ◌+◌, ◌-◌, ◌<◌, ◌≤◌}
 use native.Mathlib.Omega.{arith}
 use native.Mathlib.Nat.{add-zero}
-use lib.ListN.{length, get_or, take, drop, length-append, length-drop, take-append-drop}
-use lib.Seq.{take_all, drop-length, length-take-le, drop-cons, drop-drop, take_at, drop_at, get_or-take, get_or-append-add}
+use lib.ListN.{length, get_or, set, take, drop, length-append, length-drop, take-append-drop}
+use lib.Seq.{take_all, drop-length, length-take-le, drop-cons, drop-drop, take_at, drop_at, get_or-take, get_or-append-add, sets-eq}
 use Rattle.model.specs.Feed.{over}
 use Rattle.record_loop.specs.Runs.{over_at}
 
@@ -73,6 +73,17 @@ module _ (out : List ℕ) (i : ℕ) (a : List ℕ) (four : length a ≡ 4) (fits
       let d = drop (i + (4 + length b)) out in
       split (i + 4) b (over_at i a out)
       ∙ rw (over_take, over_drop (length b), split i (a ++ b) out, length-append a b, four, append_assoc (take i out) a (b ++ d), append_assoc a b d)
+
+-- four bytes set one after another
+pub over_four : (out : List ℕ) (i a b c d : ℕ) → i + 4 ≤ length out
+    → set (set (set (set out i a) (i + 1) b) (i + 2) c) (i + 3) d ≡ over_at i (a ∷ b ∷ c ∷ d ∷ []) out
+unfolding over_at
+over_four out i a b c d h =
+    let e : i + 1 ≡ suc i = omega arith in
+    let f : i + 2 ≡ suc (suc i) = omega arith in
+    let g : i + 3 ≡ suc (suc (suc i)) = omega arith in
+    let v = a ∷ b ∷ c ∷ d ∷ [] in
+    rw (e, f, g) (sets-eq v out i h ∙ append_assoc (take i out) v (drop (i + 4) out))
 
 pub over_front : (b out : List ℕ) → over_at 0 b out ≡ over b out
 unfolding over_at

@@ -26,13 +26,17 @@ fn record_in(piece: &[u8], j: usize) -> Record
     }
 }
 
-// Writes the four bytes of a reply at byte i of the buffer.
+// Writes the four bytes of a reply at byte i of the buffer, one by one: in a library where the loop is compiled by itself (`export_feed`), an
+// array of them is stored and read again to be copied, and a log that is mostly refused takes a fifth more time.
 fn write_reply(replies: &mut [u8], i: usize, reply: Reply)
     requires { i + 4 ≤ length replies.old }
     ensures { replies.new ≡ over_at i (reply_bytes (reply_of reply)) replies.old }
 {
     let [low, high] = reply.code.to_le_bytes();
-    replies[i..i + 4].copy_from_slice(&[reply.kind, reply.device, low, high]);
+    replies[i] = reply.kind;
+    replies[i + 1] = reply.device;
+    replies[i + 2] = low;
+    replies[i + 3] = high;
 }
 
 // Answers the whole records of a source, each at its record's place in the buffer. Where the source is longer than a piece may be, or the

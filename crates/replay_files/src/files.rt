@@ -1,13 +1,13 @@
 // What is said where a file fails, by the program that speaks.
-ghost use Rattle.std.specs.Prelude.{IfOk};
+ghost use Rattle.std.specs.Prelude.{IfOk, IfErr};
 ghost use Rattle.io.specs.Counts.{IsPrefixLen};
 
-use program_files::say;
-use std::io::{Error, Result};
+use program_files::{FailedOpen, say};
+use std::io::Error;
 use std::rt::Runtime;
 
 // The program that speaks.
-pub fn speaker(resumes: bool) -> &'static [u8] {
+pub(crate) fn speaker(resumes: bool) -> &'static [u8] {
     if resumes { b"resume: " } else { b"replay: " }
 }
 
@@ -30,8 +30,9 @@ pub fn opened<R: Runtime>(
     called: &[u8],
     path: &mut [u8],
     write: bool,
-) -> Result<(R::File, usize)>
-    ensures { IfOk result (λ opened. IsPrefixLen opened.1 path.new) }
+) -> Result<(R::File, usize), FailedOpen>
+    ensures ok { IfOk result (λ opened. IsPrefixLen opened.1 path.new) }
+    ensures err { IfErr result (λ failed. IsPrefixLen failed.length path.new) }
 {
     program_files::opened(rt, speaker(resumes), i, called, path, write)
 }

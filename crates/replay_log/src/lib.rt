@@ -105,8 +105,8 @@ fn opened<R: Runtime>(
     let mut bytes = io::buffer();
     let count = match program_files::fill(&mut log, &mut bytes, task.size) {
         Ok(count) => count,
-        Err(error) => {
-            files::complain(rt, task.resumes, log_path, error);
+        Err(cut) => {
+            files::complain(rt, task.resumes, log_path, cut.error);
             return failed(bench);
         }
     };

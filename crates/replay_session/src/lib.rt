@@ -95,8 +95,8 @@ fn next<F: Read + Write>(
     let size = ends.size;
     let count = match program_files::fill(&mut ends.log, &mut bytes, size) {
         Ok(count) => count,
-        Err(error) => {
-            files::complain(rt, ends.resumes, log_path, error);
+        Err(failed) => {
+            files::complain(rt, ends.resumes, log_path, failed.error);
             return ended(before, End::Failed);
         }
     };

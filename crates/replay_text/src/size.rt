@@ -40,12 +40,13 @@ pub fn number(text: &[u8], most: u16) -> Option<usize>
 pub fn read(text: &[u8]) -> Option<usize>
     ensures { result ≡ size_of text.now }
 {
-    let size = number(text, 4097)?;
-    if size == 0 {
-        return None;
+    let mut value: usize = 0;
+    for b in text {
+        value = 10 * value + digit(*b)?;
+        let large = value > MOST;
+        if large {
+            return None;
+        }
     }
-    if size > MOST {
-        return None;
-    }
-    Some(size)
+    (value != 0).then_some(value)
 }

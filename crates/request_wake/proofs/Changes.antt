@@ -6,6 +6,8 @@ use Prim.Native.Nat.{ℕ, ◌<◌}
 use native.Mathlib.Omega.{arith}
 use native.Mathlib.Decide.{dec_lt}
 use lib.Dec.{eqb, ltb}
+use Rattle.std.specs.Prelude.{Option}
+use Rattle.std.specs.Option.{unwrap_or}
 use Rattle.model.specs.Limits.{EACCES, EBUSY, EINVAL, minus}
 use Rattle.model.specs.Logic.{when◌then◌else◌}
 use Rattle.model.specs.State.{State, SUSPENDED, ACTIVE, status_at, error_at, depth_at, with_status, with_callback, with_error}
@@ -17,7 +19,10 @@ use Rattle.model.proofs.Basics.{by_if}
 use Rattle.model.proofs.WakeSet.{member_asleep, first_lowest}
 use Rattle.memory.specs.Ready.{Ready}
 use Rattle.memory.proofs.Readiness.{ready_status, ready_closed, ready_holds}
+use Rattle.memory.specs.Layout.{state_in}
 use Rattle.links.specs.Firsts.{Indexed}
+use Rattle.wakeset.specs.Marks.{IsLowest, FindsLowest}
+use Rattle.wakeset.proofs.Members.{finds_lowest}
 use Rattle.request_answer.specs.Promises.{magnitude}
 use Rattle.request_wake.specs.Wakes.{resume_of, failed}
 
@@ -29,6 +34,11 @@ lowest_asleep {s} h t l =
       | yes y ↦ member_asleep (first_lowest s h.rules.order t l y).member
       | no g ↦ let z = h.statuses.unused (lowest s t) (omega arith) in omega arith
     ]
+
+-- what is found as an Option, n where nothing is found, is the lowest member as a number
+pub lowest_or : {bytes first : List ℕ} {t n r : ℕ} (found : Option ℕ) → ((words : List ℕ) → n ≡ (state_in bytes words).wiring.n)
+    → FindsLowest bytes first t found → r ≡ unwrap_or found n → IsLowest bytes first t r
+lowest_or found e f h = rw h (finds_lowest found e f)
 
 -- ---- kind 9, test by test
 -- p has no error and is enabled

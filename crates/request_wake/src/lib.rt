@@ -8,7 +8,7 @@ ghost use Rattle.request_answer.specs.Promises.{LeadsBy};
 ghost use Rattle.request_wake.specs.Wakes.{Resumes, ResultLeads, failed};
 
 use links::FIRSTS;
-use memory::{BYTES, WORDS, set_callback};
+use memory::{BYTES, WORDS, devices, set_callback};
 use memory_rows::{depth, error, status};
 use memory_stores::{set_error, set_status_cell};
 use model::{ACTIVE, EACCES, EBUSY, EINVAL, RESUMING, SUSPENDED};
@@ -66,7 +66,8 @@ pub fn get_wake<'a>(
     wake(bytes, words, first, p)
 }
 
-// The members of t's wake set that remain are asked in turn; then the wake of t is finished.
+// The members of t's wake set that remain are asked in turn; then the wake of t is finished. A member is one of the n devices: on a bench
+// that is not sound the target may be none of them.
 fn go_on<'a>(
     bytes: &mut [u8; BYTES],
     words: &mut [u32; WORDS],
@@ -75,9 +76,10 @@ fn go_on<'a>(
 ) -> Reply
     ensures { LeadsBy go_on first.now bytes.old words.old t bytes.new words.new result }
 {
-    let Some(low) = lowest_member(bytes, first, t) else {
+    let low = lowest_member(bytes, first, t).unwrap_or(devices(bytes));
+    if devices(bytes) <= low {
         return finished(t, 0);
-    };
+    }
     ask_resume(bytes, low, t)
 }
 

@@ -55,7 +55,7 @@ pub fn save_number(answer: Result<(), SaveRefusal>) -> u8
 {
     match answer {
         Ok(()) => 0,
-        Err(refusal) => refusal.number(),
+        Err(unsaved) => unsaved.number(),
     }
 }
 
@@ -65,6 +65,6 @@ pub fn restore_number(answer: Result<(), RestoreRefusal>) -> u8
 {
     match answer {
         Ok(()) => 0,
-        Err(refusal) => refusal.number(),
+        Err(unrestored) => unrestored.number(),
     }
 }

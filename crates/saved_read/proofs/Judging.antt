@@ -2,7 +2,6 @@
 use mathlib.Core.Path.{◌≡◌, refl, ap, ◌∙◌}
 use mathlib.Core.List.{List}
 use Prim.Native.Nat.{ℕ}
-use native.Mathlib.Omega.{arith}
 use borrow.Author.Tests.{ne_eqb}
 use Rattle.std.specs.Prelude.{Ok, Err}
 use Rattle.model.specs.Logic.{when◌then◌else◌}
@@ -10,24 +9,16 @@ use Rattle.model.specs.State.{empty_state}
 use Rattle.model.proofs.Basics.{by_if}
 use Rattle.memory.specs.Layout.{state_in}
 use Rattle.saved_answer.specs.declared.RestoreRefusal.{RestoreRefusal}
-use Rattle.saved_answer.specs.declared.RestoreRefusal.TheVariants.{Short, Mark, Version, Length, Unsound}
 use Rattle.saved_answer.specs.Answers.{restore_refusal}
+use Rattle.saved_answer.proofs.Numbers.{restoring_refused}
 use Rattle.saved_form.specs.Restoring.{state_by, head_answer, Restored, refusal, judged_of, restore_of}
 use Rattle.saved_read.specs.Reads.{ReadIs}
 use Rattle.saved_read.specs.declared.Cells.{Cells}
 
--- a refusal has a number
-numbered : (e : RestoreRefusal) → restore_refusal e ≡ 0 → ⊥
-numbered Short z = omega arith
-numbered Mark z = omega arith
-numbered Version z = omega arith
-numbered Length z = omega arith
-numbered Unsound z = omega arith
-
 pub restore_refused : (f : List ℕ) (e : RestoreRefusal) → ReadIs f (Err e) → refusal (restore_refusal e) ≡ restore_of f
 unfolding restore_of when◌then◌else◌
 restore_refused f e h =
-    let ne : head_answer f ≡ 0 → ⊥ = λ y. numbered e (h.number ∙ y) in
+    let ne : head_answer f ≡ 0 → ⊥ = λ y. restoring_refused e (h.number ∙ y) in
     rw (ne_eqb _ _ ne, h.number)
 
 pub restore_read : (f : List ℕ) (c : Cells) → ReadIs f (Ok c) → judged_of (state_in c.bytes c.words) ≡ restore_of f

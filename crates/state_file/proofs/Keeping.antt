@@ -20,8 +20,8 @@ use Rattle.keeper_bench.specs.declared.Bench.{Bench}
 use Rattle.keeper_bench.specs.Translate.{state_of}
 use Rattle.std.specs.Prelude.{Result, ⊤, Err}
 use Rattle.saved_answer.specs.declared.SaveRefusal.{SaveRefusal}
-use Rattle.saved_answer.specs.declared.SaveRefusal.TheVariants.{Unsound, Room}
-use Rattle.saved_answer.specs.Answers.{save_refusal, saving_of}
+use Rattle.saved_answer.specs.Answers.{saving_of}
+use Rattle.saved_answer.proofs.Numbers.{saving_refused}
 use Rattle.saved_form.specs.Form.{FORM, form}
 use Rattle.saved_form.specs.Saving.{Saved, save_number, save_of}
 use Rattle.saved_form.proofs.Laws.{form_long, saved_form}
@@ -41,12 +41,8 @@ by_test true s buffer e z = e
 by_test false s buffer e z = let n = unsound_number s buffer e in absurd (omega arith)
 
 -- ---- a refusal has a number
-numbered : (e : SaveRefusal) → save_refusal e ≡ 0 → ⊥
-numbered Unsound z = omega arith
-numbered Room z = omega arith
-
 pub refusal_numbered : {r : Result ⊤ SaveRefusal} {e : SaveRefusal} → r ≡ Err e → saving_of r ≡ 0 → ⊥
-refusal_numbered {r} {e} h z = numbered e (sym (ap saving_of h) ∙ z)
+refusal_numbered {r} {e} h z = saving_refused e (sym (ap saving_of h) ∙ z)
 
 -- ---- a saving
 module _ (b : Bench) (buffer : List ℕ) (long : length buffer ≡ FORM) (r : Result ⊤ SaveRefusal) {after : List ℕ} (met : saved_of r after ≡ save_of (state_of b) buffer) where

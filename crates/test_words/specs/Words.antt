@@ -49,13 +49,13 @@ pub record Word (c : ℕ) (s : List ℕ) (k a e : ℕ) : Type 0 where
   pub low : a ≤ e
   pub high : e ≤ length s
 
--- place r is the first among the names where the text stands; 32 where there is none
+-- place r is the first among the names where the text stands; NAMES where there is none
 pub record Placed (names text : List ℕ) (r : ℕ) : Type 0 where
   pub first : (j : ℕ) → j < r → word_in 32 names j ≡ text → ⊥
-  pub here : r < 32 → word_in 32 names r ≡ text
-  pub most : r ≤ 32
+  pub here : r < NAMES → word_in 32 names r ≡ text
+  pub most : r ≤ NAMES
 
--- the place of a name that is found; 32 where there is none
+-- the place of a name that is found; NAMES where there is none
 abbrev pub place_of : Option ℕ → ℕ
 place_of (Some j) = j
-place_of None = 32
+place_of None = NAMES

@@ -1,8 +1,8 @@
 // The words of a line of a test script, and what they stand for: numbers, bytes, names.
 #![tactic(auto)]
 
-ghost use Rattle.std.specs.Prelude.{◌≡◌, true, ◌+◌, ◌*◌, ◌%◌, ◌<◌, ◌≤◌, IfOk, length, get_or};
-ghost use Rattle.test_words.specs.Words.{stops, Scanned, word_in, Placed, place_of};
+ghost use Rattle.std.specs.Prelude.{◌≡◌, true, ◌+◌, ◌*◌, ◌%◌, ◌<◌, ◌≤◌, IfOk, IfSome, Some, length, get_or};
+ghost use Rattle.test_words.specs.Words.{NAMES, WORDS, stops, Scanned, Word, word_in, Placed, place_of};
 ghost use Rattle.test_words.specs.Numbers.{digit_of, joined, value_after, minus, number_of, hex_byte, all_hex};
 
 use std::io;
@@ -13,10 +13,17 @@ use std::io::Read;
 pub const WRONG: u32 = 65536;
 
 // The most names that are looked through.
-const NAMES: usize = 32;
+pub const NAMES: usize = 32;
 
 // The most words of a line.
 const WORDS: usize = 64;
+
+// Where a word starts and stops.
+#[derive(Clone, Copy)]
+pub struct Part {
+    pub start: usize,
+    pub stop: usize,
+}
 
 // Byte k, 0 past the end.
 pub fn byte_at(s: &[u8], k: usize) -> u8
@@ -45,9 +52,9 @@ pub fn scan(s: &[u8], from: usize, byte: u8, same: bool) -> usize
     from.max(s.len())
 }
 
-// Word k of a text, from 0: between words stands a byte, once or more often. Past the last word it is empty.
-fn word(s: &[u8], k: usize, between: u8) -> &[u8]
-    ensures { result.now ≡ word_in between s.now k }
+// Where word k of a text stands, from 0: between words stands a byte, once or more often. Past the last word it is empty.
+pub fn word_at(s: &[u8], k: usize, between: u8) -> Part
+    ensures { Word between s.now k result.start result.stop }
 {
     let mut start = scan(s, 0, between, false);
     let mut stop = scan(s, start, between, true);
@@ -55,7 +62,15 @@ fn word(s: &[u8], k: usize, between: u8) -> &[u8]
         start = scan(s, stop, between, false);
         stop = scan(s, start, between, true);
     }
-    &s[start..stop]
+    Part { start, stop }
+}
+
+// The bytes of word k.
+pub fn word(s: &[u8], k: usize, between: u8) -> &[u8]
+    ensures { result.now ≡ word_in between s.now k }
+{
+    let part = word_at(s, k, between);
+    &s[part.start..part.stop]
 }
 
 // The value of a hexadecimal digit, 16 for any other byte.
@@ -115,7 +130,8 @@ pub fn number_in(line: &[u8], k: usize) -> u32
 
 // Which of the names a text is: its place among them.
 fn place(names: &[u8], text: &[u8]) -> Option<usize>
-    ensures { Placed names.now text.now (place_of result) }
+    ensures is { Placed names.now text.now (place_of result) }
+    ensures below { IfSome result (λ j. j < NAMES) }
 {
     for j in 0..NAMES {
         if word(names, j, b' ') == text {
@@ -127,7 +143,8 @@ fn place(names: &[u8], text: &[u8]) -> Option<usize>
 
 // Which of the names word k of a line is.
 pub fn name_in(names: &[u8], line: &[u8], k: usize) -> Option<usize>
-    ensures { Placed names.now (word_in 32 line.now k) (place_of result) }
+    ensures is { Placed names.now (word_in 32 line.now k) (place_of result) }
+    ensures below { IfSome result (λ j. j < NAMES) }
 {
     place(names, word(line, k, b' '))
 }
@@ -209,7 +226,9 @@ fn group(s: &[u8], out: &mut [u8], at: usize) -> Option<usize> {
 }
 
 // The bytes of a line from word k on, stored from the start of a buffer: how many they are; none where a word cannot be read.
-pub fn bytes_in(line: &[u8], k: usize, out: &mut [u8]) -> Option<usize> {
+pub fn bytes_in(line: &[u8], k: usize, out: &mut [u8]) -> Option<usize>
+    ensures { WORDS ≤ k → result ≡ Some 0 }
+{
     let mut at: usize = 0;
     for j in k..WORDS {
         at = group(word(line, j, b' '), out, at)?;

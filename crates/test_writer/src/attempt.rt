@@ -28,7 +28,7 @@ fn starts(k: usize, links: usize) -> bool {
 
 // A table, whose links start at a place, with a blank before its header, each part and each link; a long one up to the bytes that are
 // shown.
-fn table(rt: &impl Print, t: &[u8], links: usize) -> io::Result<()> {
+pub fn table(rt: &impl Print, t: &[u8], links: usize) -> io::Result<()> {
     for (k, b) in t[..t.len().min(SHOWN)].iter().enumerate() {
         let blank = if starts(k, links) { " " } else { "" };
         print!(rt; "{blank}{b:02X}")?;

@@ -1,12 +1,12 @@
 -- `keeper_questions::user_holds` meets its contract. Assumes nothing.
-use Rattle.std.proofs.lemmas.Result.{err_from_is_err_and}
 use Rattle.keeper_questions.proofs.Telling.{refused, answered}
 use Rattle.keeper_questions.proofs.user_holds.Goals as goal
 
-pub returns-in_err-about : goal.returns-in_err-about
-returns-in_err-about c =
-    let p = err_from_is_err_and c.from_residual.result c.from_residual.ensures.1 in
-    rw (p.1, p.2) (refused c.in_err-about.ensures _)
+pub returns-in-Err-Unsound : goal.returns-in-Err-Unsound
+returns-in-Err-Unsound c = refused (rw (c.in-Err-Unsound.is, c.in-Err-Unsound.field-0-is) at c.about.ensures) _
 
-pub returns : goal.returns
-returns c = answered c.in_ok-about.ensures (c.holds.ensures c.args.b.bytes)
+pub returns-in-Err-Unknown : goal.returns-in-Err-Unknown
+returns-in-Err-Unknown c = refused (rw (c.in-Err-Unknown.is, c.in-Err-Unknown.field-0-is) at c.about.ensures) _
+
+pub returns-in-Ok : goal.returns-in-Ok
+returns-in-Ok c = answered c.in-Ok.ensures (c.holds.ensures c.args.b.bytes)

@@ -1,17 +1,6 @@
--- `test_words::word` meets its contract. The invariant: word i stands where the last two scans stopped. Assumes nothing.
-use mathlib.Core.Path.{◌≡◌}
-use native.Mathlib.Omega.{arith}
-use Rattle.test_words.proofs.Scanning.{word_first, word_next, word_text}
+-- `test_words::word` meets its contract: what stands from the start of word k to its stop is that word. Assumes nothing.
+use Rattle.test_words.proofs.Scanning.{word_text}
 use Rattle.test_words.proofs.word.Goals as goal
 
-pub loop-i-init : goal.loop-i-init
-loop-i-init c = word_first _ c.scan-start.ensures c.scan-stop.ensures
-
-pub loop-i-preserved : goal.loop-i-preserved
-loop-i-preserved c = word_next _ c.loop-i.invariant c.scan-start-in-loop-i.ensures c.scan-stop-in-loop-i.ensures
-
--- word k is reached
 pub returns : goal.returns
-returns c =
-    let last : c.loop-i.i ≡ c.args.k = omega arith in
-    word_text _ (rw last at c.loop-i.invariant)
+returns c = word_text _ c.word_at-part.ensures

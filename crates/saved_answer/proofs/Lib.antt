@@ -1,0 +1,2 @@
+-- What the proofs of callers cite.
+pub mod Numbers

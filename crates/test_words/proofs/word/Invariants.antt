@@ -1,6 +1,0 @@
--- `test_words::word` meets its contract. The invariant: word i stands where the last two scans stopped. Assumes nothing.
-use Rattle.test_words.specs.Words.{Word}
-use Rattle.test_words.proofs.word.Given as goal
-
-abbrev pub invariant-loop-i : goal.invariant-loop-i
-invariant-loop-i l = Word l.between l.s l.i l.start l.stop
