@@ -27,7 +27,7 @@ fn record_in(piece: &[u8], j: usize) -> Record
 }
 
 // Writes the four bytes of a reply at byte i of the buffer, one by one: in a library where the loop is compiled by itself (`export_feed`), an
-// array of them is stored and read again to be copied, and a log that is mostly refused takes a fifth more time.
+// array of them is stored and read again to be copied, and a log that is mostly refused takes two fifths more time.
 fn write_reply(replies: &mut [u8], i: usize, reply: Reply)
     requires { i + 4 ≤ length replies.old }
     ensures { replies.new ≡ over_at i (reply_bytes (reply_of reply)) replies.old }
