@@ -1,13 +1,16 @@
 // What is said where a file fails, by the program that speaks.
-ghost use Rattle.std.specs.Prelude.{IfOk, IfErr};
+ghost use Rattle.std.specs.Prelude.{◌≡◌, IfOk, IfErr};
 ghost use Rattle.io.specs.Counts.{IsPrefixLen};
+ghost use Rattle.replay_refusals.specs.Lines.{speaker_text};
 
 use program_files::{FailedOpen, say};
 use std::io::Error;
 use std::rt::Runtime;
 
 // The program that speaks.
-pub(crate) fn speaker(resumes: bool) -> &'static [u8] {
+pub fn speaker(resumes: bool) -> &'static [u8]
+    ensures { result.now ≡ speaker_text resumes }
+{
     if resumes { b"resume: " } else { b"replay: " }
 }
 
@@ -41,4 +44,15 @@ pub fn opened<R: Runtime>(
 pub fn incomplete(rt: &impl Eprint, resumes: bool, path: &[u8]) {
     speak(rt, resumes, path);
     say(rt, b": replies are not complete\n");
+}
+
+#[cfg(test)]
+mod tests {
+    use super::*;
+
+    #[test]
+    fn speakers(rt: HostRuntime) {
+        assert_eq!(rt; speaker(false), b"replay: ".as_slice());
+        assert_eq!(rt; speaker(true), b"resume: ".as_slice());
+    }
 }
